@@ -1,0 +1,3 @@
+pub mod Constant
+pub mod Linear
+pub mod Rule
