@@ -1,0 +1,6 @@
+use borrow.Author.Needs.{needs}
+use Rattle.frame.proofs.Pieces.{piece-none}
+use Rattle.frame.proofs.collector.Collector.clear.Needs as need
+
+pub returns : need.returns
+returns c = record { keeps = search needs; piece = piece-none (search needs) }

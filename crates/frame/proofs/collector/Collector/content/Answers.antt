@@ -1,0 +1,6 @@
+use mathlib.Core.Path.{_∙_}
+use Rattle.frame.proofs.Pieces.{piece-content}
+use Rattle.frame.proofs.collector.Collector.content.Needs as need
+
+pub returns : need.returns
+returns c = record { keeps = c .bytes .ensures; piece = λ raw held good. c .bytes .ensures ∙ piece-content raw held good }

@@ -1,0 +1,72 @@
+// The calls on a content: made empty, one byte more, emptied, read.
+ghost use mathlib.Core.Path.{_≡_};
+ghost use mathlib.Core.Bool.{cond};
+ghost use mathlib.Core.List.{[], _∷_, _++_};
+ghost use Prim.Native.Nat.{_<_, _≤_};
+ghost use lib.Dec.{ltb};
+ghost use lib.ListN.{length, set, take};
+ghost use Rattle.frame.specs.Contents.{bytesOf};
+use super::Content;
+use super::Row;
+
+impl Row {
+    fn put(&mut self, at: usize, byte: u8)
+        requires { ⌜ at < 125 ⌝ }
+        ensures { λ _. ⌜ now (self .exit) .bytes ≡ set (now (self .entry) .bytes) at byte ⌝ ∗ ⌜ length (now (self .entry) .bytes) ≡ 125 ⌝ }
+    {
+        self.bytes[at] = byte;
+    }
+
+    fn front(&self, count: usize) -> &[u8]
+        requires { ⌜ count ≤ 125 ⌝ }
+        ensures { λ r. ⌜ now r ≡ take count (now (self .entry) .bytes) ⌝ ∗ ⌜ length (now r) ≡ count ⌝ }
+    {
+        &self.bytes[0..count]
+    }
+}
+
+impl Content {
+    // A content of no bytes.
+    pub fn new() -> Content
+        ensures { λ r. ⌜ bytesOf r ≡ [] ⌝ }
+    {
+        Content {
+            count: 0,
+            row: Row { bytes: [0; 125] },
+        }
+    }
+
+    // How many bytes it holds: the row has them all, since the count never passes 125.
+    fn len(&self) -> usize
+        ensures { λ r. ⌜ r ≡ now (self .entry) .count ⌝ ∗ ⌜ r ≡ length (bytesOf (now (self .entry))) ⌝ }
+    {
+        self.row.front(self.count).len()
+    }
+
+    // Adds one byte, or answers false and leaves all as it was where 125 are held already.
+    pub fn push(&mut self, byte: u8) -> bool
+        ensures room { λ r. ⌜ r ≡ ltb (length (bytesOf (now (self .entry)))) 125 ⌝ }
+        ensures bytes { λ r. ⌜ bytesOf (now (self .exit)) ≡ cond r (bytesOf (now (self .entry)) ++ byte ∷ []) (bytesOf (now (self .entry))) ⌝ }
+    {
+        if self.len() == 125 {
+            return false;
+        }
+        self.row.put(self.count, byte);
+        self.count += 1;
+        true
+    }
+
+    // Makes it a content of no bytes again.
+    pub fn clear(&mut self)
+        ensures { λ _. ⌜ bytesOf (now (self .exit)) ≡ [] ⌝ }
+    {
+        self.count = 0;
+    }
+
+    // The bytes that it holds.
+    pub fn bytes(&self) -> &[u8]
+        ensures { λ r. ⌜ now r ≡ bytesOf (now (self .entry)) ⌝ }
+    {
+        self.row.front(self.count)
+    }
+}
