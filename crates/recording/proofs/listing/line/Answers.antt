@@ -1,0 +1,24 @@
+use mathlib.Core.Path.{_≡_, sym, ap, subst, _∙_}
+use native.Mathlib.Omega.{arith}
+use Rattle.recording.specs.declared.status.Status.the-variants.{Piece}
+use Rattle.recording.specs.Pieces.{Answer, pieceAt}
+use Rattle.frame.proofs.Writes.{written-nothing}
+use Rattle.recording.specs.Listing.{counted, filled}
+use Rattle.recording.proofs.Readings.{Small, piece-small, no-text}
+use Rattle.recording.proofs.listing.line.Needs as need
+
+pub put-line-requires : need.put-line-requires
+put-line-requires c κs =
+    let told = c .read-reading .ensures in
+    let small = subst Small (sym told) (piece-small (c .args .recording .now) (c .args .place) (c .in-Piece .mark) (sym (ap (λ (a : Answer). a .status) told) ∙ c .in-Piece .is)) in
+    record { long = c .if-out-lt-LINE-ROOM .left; start = small .start; count = small .raw }
+
+pub returns-in-End : need.returns-in-End
+returns-in-End c =
+    let told = c .read-reading .ensures in
+    let bytes = c .args .recording .now in
+    let end = no-text bytes (c .args .place) (c .args .out .now) (sym (ap (λ (a : Answer). a .status) told) ∙ c .in-End .is) (c .if-out-lt-LINE-ROOM .left) in
+    record {
+      count = sym (ap counted end);
+      bytes = sym (ap (filled (c .args .out .now)) end ∙ written-nothing (c .args .out .now) 0);
+    }

@@ -1,0 +1,11 @@
+use mathlib.Core.Path.{_≡_, sym, ap, _∙_}
+use native.Mathlib.Omega.{arith}
+use borrow.Author.Needs.{needs}
+use Rattle.recording.proofs.Fields.{field-length, text-then}
+use Rattle.recording.proofs.listing.put_field.Needs as need
+
+pub returns : need.returns
+returns c = record {
+  place = field-length (c .args .at) (c .args .text .now) (c .args .after);
+  bytes = text-then (c .args .out .now) (c .args .at) (c .args .text .now) (c .copy-from-slice .last .self) (c .args .after) (c .copy-from-slice .ensures .after) (c .pre);
+}
