@@ -1,3 +1,4 @@
+pub mod Covers
 pub mod Fields
 pub mod Readings
 pub mod Runs

@@ -3,6 +3,7 @@ ghost use mathlib.Core.Path.{_≡_};
 ghost use mathlib.Core.List.{[], _∷_, _++_};
 ghost use Prim.Native.Nat.{_+_, _≤_, _<_};
 ghost use lib.ListN.{length};
+ghost use Rattle.std.specs.Vec.{made};
 ghost use Rattle.std.specs.Written.{decimal};
 ghost use Rattle.std.specs.declared.result.Result.the-variants.{Ok};
 ghost use Rattle.frame.specs.Written.{written};
@@ -19,6 +20,7 @@ pub const LINE_ROOM: usize = 32;
 pub fn names(out: &mut [u8]) -> Result<usize, Refusal>
     ensures count { λ r. ⌜ r ≡ counted (into (now (out .entry)) (Ok namesLine)) ⌝ }
     ensures bytes { λ _. ⌜ now (out .exit) ≡ filled (now (out .entry)) (into (now (out .entry)) (Ok namesLine)) ⌝ }
+    ensures within { λ r. ⌜ made r (λ n. n ≤ 32) ⌝ }
 {
     if out.len() < LINE_ROOM {
         return Err(Refusal::ShortBuffer);
@@ -30,6 +32,7 @@ pub fn names(out: &mut [u8]) -> Result<usize, Refusal>
 pub fn line(recording: &[u8], place: usize, out: &mut [u8]) -> Result<usize, Refusal>
     ensures count { λ r. ⌜ r ≡ counted (into (now (out .entry)) (lineAt (now (recording .entry)) place)) ⌝ }
     ensures bytes { λ _. ⌜ now (out .exit) ≡ filled (now (out .entry)) (into (now (out .entry)) (lineAt (now (recording .entry)) place)) ⌝ }
+    ensures within { λ r. ⌜ made r (λ n. n ≤ 32) ⌝ }
 {
     if out.len() < LINE_ROOM {
         return Err(Refusal::ShortBuffer);
@@ -55,6 +58,7 @@ fn put_line(out: &mut [u8], start: usize, count: usize, mark: Mark, command: Opt
     requires count { ⌜ count ≤ 65536 ⌝ }
     ensures place { λ r. ⌜ r ≡ length (lineOf start count mark command) ⌝ }
     ensures bytes { λ _. ⌜ now (out .exit) ≡ written (now (out .entry)) 0 (lineOf start count mark command) ⌝ }
+    ensures within { λ r. ⌜ r ≤ 32 ⌝ }
 {
     let at = put_number(out, 0, start, b' ');
     let at = put_number(out, at, count, b' ');
@@ -67,6 +71,7 @@ fn put_command(out: &mut [u8], at: usize, command: Option<u8>, after: u8) -> usi
     requires { ⌜ at + 4 ≤ length (now out) ⌝ }
     ensures place { λ r. ⌜ r ≡ at + length (field (commandText command) after) ⌝ }
     ensures bytes { λ _. ⌜ now (out .exit) ≡ written (now (out .entry)) at (field (commandText command) after) ⌝ }
+    ensures within { λ r. ⌜ r ≤ at + 4 ⌝ }
 {
     match command {
         Some(command) => put_number(out, at, usize::from(command), after),

@@ -21,4 +21,5 @@ returns-in-End c =
     record {
       count = sym (ap counted end);
       bytes = sym (ap (filled (c .args .out .now)) end ∙ written-nothing (c .args .out .now) 0);
+      within = omega arith;
     }

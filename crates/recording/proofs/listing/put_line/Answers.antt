@@ -8,12 +8,12 @@ use Rattle.recording.specs.Listing.{space, lineFeed, field, commandText, lineO
 use Rattle.recording.specs.Statuses.{markName}
 use Rattle.recording.proofs.Fields.{length-field, five-digits, six-letters, write-fields, fields-length}
 use Rattle.recording.proofs.listing.put_line.Needs as need
-use Rattle.recording.proofs.listing.put_line.Needs.{After-put-number-at, After-put-number-at-2}
+use Rattle.recording.proofs.listing.put_line.Needs.{After-put-number-at, After-put-number-at-2, After-put-field-at}
 
 pub put-number-at-requires : need.put-number-at-requires
 put-number-at-requires c κs = omega (arith, five-digits (c .args .start) (c .pre .start))
 
--- the second field begins within the first 6 bytes, and the third within 12
+-- the second field begins within the first 6 bytes, the third within 12, the fourth within 19
 
 second-at : (c : After-put-number-at) → c .put-number-at .result ≤ 6
 second-at c = omega (arith, c .put-number-at .ensures .place, length-field (decimal (c .args .start)) space, five-digits (c .args .start) (c .pre .start))
@@ -21,6 +21,11 @@ second-at c = omega (arith, c .put-number-at .ensures .place, length-field (deci
 third-at : (c : After-put-number-at-2) → c .put-number-at-2 .result ≤ 12
 third-at c =
     omega (arith, second-at (need.at·After-put-number-at-2 c .After-put-number-at), c .put-number-at-2 .ensures .place, length-field (decimal (c .args .count)) space, five-digits (c .args .count) (c .pre .count))
+
+fourth-at : (c : After-put-field-at) → c .put-field-at .result ≤ 19
+fourth-at c =
+    let name = ap length (c .as-bytes .ensures .value ∙ c .name .ensures) in
+    omega (arith, third-at (need.at·After-put-field-at c .After-put-number-at-2), name, six-letters (c .args .mark), length-field (c .as-bytes .result .now) space, c .put-field-at .ensures .place)
 
 pub put-number-at-requires-2 : need.put-number-at-requires-2
 put-number-at-requires-2 c κs =
@@ -33,8 +38,7 @@ put-field-at-requires c κs =
 
 pub put-command-requires : need.put-command-requires
 put-command-requires c κs =
-    let name = ap length (c .as-bytes .ensures .value ∙ c .name .ensures) in
-    omega (arith, third-at (need.at·put-command-requires c .After-put-number-at-2), name, six-letters (c .args .mark), length-field (c .as-bytes .result .now) space, c .put-field-at .ensures .place, c .put-number-at .kept .out, c .put-number-at-2 .kept .out, c .put-field-at .kept .out, c .pre .long)
+    omega (arith, fourth-at (need.at·put-command-requires c .After-put-field-at), c .put-number-at .kept .out, c .put-number-at-2 .kept .out, c .put-field-at .kept .out, c .pre .long)
 
 pub returns : need.returns
 unfolding lineOf
@@ -50,4 +54,5 @@ returns c =
       bytes =
           four .bytes
           ∙ write-fields (c .args .out .now) _ _ _ (field (decimal (c .args .start)) space) (field (decimal (c .args .count)) space) (field (markName (c .args .mark)) space) (field (commandText (c .args .command)) lineFeed) _ _ _ (one .bytes) (one .place) (two .bytes) (two .place) (three .bytes ∙ ap (written (c .put-number-at-2 .last .out) (c .put-number-at-2 .result)) named) (three .place ∙ ap (λ l. c .put-number-at-2 .result + length l) named);
+      within = omega (arith, four .within, fourth-at (need.at·returns c .After-put-field-at));
     }
