@@ -4,6 +4,3 @@ mod table;
 
 pub use sum::fcs16;
 pub use table::fcs_table;
-
-#[cfg(test)]
-mod tests;

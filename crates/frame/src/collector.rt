@@ -55,7 +55,7 @@ impl Collector {
     {
         self.content.clear();
         self.over = false;
-        self.escapes = Escapes::Whole;
+        self.escapes = Escapes::Whole; // a half-read escape is not carried over a flag
     }
 
     // Takes the next byte of the piece.
@@ -112,7 +112,7 @@ impl Collector {
     fn verdict_on_content(&self) -> Verdict
         ensures { λ r. ⌜ r ≡ judgedWhole (bytesOf (now (self .entry) .content)) (now (self .entry) .over) ⌝ }
     {
-        let content = self.content.bytes();
+        let content = self.content();
         if content.is_empty() {
             Verdict::Empty
         } else if self.over {

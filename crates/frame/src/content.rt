@@ -11,7 +11,7 @@ struct Row {
 
 // The first `count` bytes of the row.
 #[derive(Clone, Copy)]
-pub struct Content {
+pub(crate) struct Content {
     count: usize,
     row: Row,
     ghost few: { count ≤ 125 },

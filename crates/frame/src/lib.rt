@@ -1,6 +1,6 @@
 // Frames on the line: flags, escapes, the check sequence, and the verdict on what stands between two flags.
 pub mod collector;
-pub mod content;
+mod content;
 pub mod receiver;
 pub mod verdict;
 pub mod writer;

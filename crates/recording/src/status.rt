@@ -48,7 +48,7 @@ impl Refusal {
 }
 
 impl Mark {
-    pub fn number(self) -> u16
+    fn number(self) -> u16
         ensures { λ r. ⌜ r ≡ markNumber self ⌝ }
     {
         match self {
@@ -64,7 +64,7 @@ impl Mark {
     }
 
     // The word for it in a listing.
-    pub fn name(self) -> &'static str
+    pub(crate) fn name(self) -> &'static str
         ensures { λ r. ⌜ now r ≡ markName self ⌝ }
     {
         match self {

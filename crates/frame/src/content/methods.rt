@@ -27,7 +27,7 @@ impl Row {
 
 impl Content {
     // A content of no bytes.
-    pub fn new() -> Content
+    pub(crate) fn new() -> Content
         ensures { λ r. ⌜ bytesOf r ≡ [] ⌝ }
     {
         Content {
@@ -36,19 +36,12 @@ impl Content {
         }
     }
 
-    // How many bytes it holds: the row has them all, since the count never passes 125.
-    fn len(&self) -> usize
-        ensures { λ r. ⌜ r ≡ now (self .entry) .count ⌝ ∗ ⌜ r ≡ length (bytesOf (now (self .entry))) ⌝ }
-    {
-        self.row.front(self.count).len()
-    }
-
     // Adds one byte, or answers false and leaves all as it was where 125 are held already.
-    pub fn push(&mut self, byte: u8) -> bool
+    pub(crate) fn push(&mut self, byte: u8) -> bool
         ensures room { λ r. ⌜ r ≡ ltb (length (bytesOf (now (self .entry)))) 125 ⌝ }
         ensures bytes { λ r. ⌜ bytesOf (now (self .exit)) ≡ cond r (bytesOf (now (self .entry)) ++ byte ∷ []) (bytesOf (now (self .entry))) ⌝ }
     {
-        if self.len() == 125 {
+        if self.bytes().len() == 125 {
             return false;
         }
         self.row.put(self.count, byte);
@@ -57,15 +50,16 @@ impl Content {
     }
 
     // Makes it a content of no bytes again.
-    pub fn clear(&mut self)
+    pub(crate) fn clear(&mut self)
         ensures { λ _. ⌜ bytesOf (now (self .exit)) ≡ [] ⌝ }
     {
         self.count = 0;
     }
 
-    // The bytes that it holds.
-    pub fn bytes(&self) -> &[u8]
-        ensures { λ r. ⌜ now r ≡ bytesOf (now (self .entry)) ⌝ }
+    // The bytes that it holds: as many as its count, since that never passes the row's length.
+    pub(crate) fn bytes(&self) -> &[u8]
+        ensures value { λ r. ⌜ now r ≡ bytesOf (now (self .entry)) ⌝ }
+        ensures len { λ r. ⌜ length (now r) ≡ now (self .entry) .count ⌝ }
     {
         self.row.front(self.count)
     }

@@ -3,4 +3,4 @@ use Rattle.frame.proofs.Pieces.{piece-content}
 use Rattle.frame.proofs.collector.Collector.content.Needs as need
 
 pub returns : need.returns
-returns c = record { keeps = c .bytes .ensures; piece = λ raw held good. c .bytes .ensures ∙ piece-content raw held good }
+returns c = record { keeps = c .bytes .ensures .value; piece = λ raw held good. c .bytes .ensures .value ∙ piece-content raw held good }

@@ -1,5 +1,6 @@
 // Published values: RFC 1662's table and its constant, the sum of the nine digits, and the vendor guide's two framing examples.
-use super::*;
+use fcs::fcs_table;
+use fcs::fcs16;
 use std::test::*;
 
 // RFC 1662's constant 0xf0b8, complemented as every sum is.

@@ -1,0 +1,97 @@
+// Recordings whole and torn, places inside and beyond them, and the limits of a recording and of a line buffer.
+use recording::listing::line;
+use recording::listing::names;
+use recording::reader::piece;
+use recording::status::Refusal;
+use recording::status::RefusalDebug;
+use recording::status::RefusalPartialEq;
+use std::alloc::Global;
+use std::test::*;
+
+// The lines of all pieces, going on from place 0.
+fn listing(heap: Global, recording: &[u8]) -> Result<Vec<u8>, Fail> {
+    let mut text = Vec::new(heap);
+    let mut place = 0;
+    for _ in 0..recording.len() {
+        let mut row = [0; 32];
+        let count = line(recording, place, &mut row)?;
+        check(count <= 32)?;
+        text.extend_from_slice(&row[0..count])?;
+        let (_, _, next) = piece(recording, place);
+        place = next;
+    }
+    Ok(text)
+}
+
+#[test]
+fn listings(rt: LibcRuntime) -> Result<(), Fail> {
+    let table = [
+        (b"" as &[u8], b"" as &[u8]),
+        (b"~", b""),
+        (b"~~", b"1 0 empty -\n"),
+        (b"abc", b"0 3 open -\n"),
+        (b"abc~", b"0 3 stray -\n"),
+        (b"~abc", b"1 3 open -\n"),
+        (
+            b"abc~\x06\0\x08\x5d\x9c~def",
+            b"0 3 stray -\n4 5 good 6\n10 3 open -\n",
+        ),
+        (
+            b"~\x06\0\x08\x7d~\x06\0\x08\x5d\x9c~",
+            b"1 4 escape -\n6 5 good 6\n",
+        ),
+        (b"~\x06\0\x08\x5d\x9d~\x06~", b"1 5 check -\n7 1 short -\n"),
+        (b"~\xff\0\x08\x77\x8c~", b"1 5 good 255\n"),
+    ];
+    for (recording, expected) in table {
+        let text = listing(rt.alloc(), recording)?;
+        check_eq(text.as_slice(), expected)?;
+    }
+    Ok(())
+}
+
+#[test]
+fn places() -> Result<(), Fail> {
+    let recording = b"~\x06\0\x08\x5d\x9c~\x06";
+    // Place, status number, count of raw bytes, place to go on.
+    let table = [
+        (0, 6, 5, 7),
+        (1, 6, 5, 7),
+        (3, 4, 3, 7),
+        (6, 1, 0, 7),
+        (7, 7, 1, 8),
+        (8, 0, 0, 8),
+        (9, 203, 0, 9),
+    ];
+    for (place, status, count, next) in table {
+        let (got_status, raw, got_next) = piece(recording, place);
+        check_eq((got_status, raw.len(), got_next), (status, count, next))?;
+    }
+    Ok(())
+}
+
+#[test]
+fn limit_of_a_recording(rt: LibcRuntime) -> Result<(), Fail> {
+    let mut bytes = vec![in rt.alloc(); 0; 65_536]?;
+    let (status, raw, next) = piece(bytes.as_slice(), 0);
+    check_eq((status, raw.len(), next), (7, 65_536, 65_536))?;
+    bytes.push(0)?;
+    let (status, raw, next) = piece(bytes.as_slice(), 70_000);
+    check_eq((status, raw.len(), next), (202, 0, 70_000))
+}
+
+#[test]
+fn room_for_a_line() -> Result<(), Fail> {
+    let mut short = [0xee; 31];
+    check_eq(line(b"~", 2, &mut short), Err(Refusal::ShortBuffer))?;
+    check_eq(names(&mut short), Err(Refusal::ShortBuffer))?;
+    check_eq(&short, &[0xee; 31])?;
+    let mut row = [0xee; 32];
+    check_eq(line(b"~", 2, &mut row), Err(Refusal::PlaceBeyond))?;
+    check_eq(line(b"~", 1, &mut row), Ok(0))?;
+    check_eq(&row, &[0xee; 32])?;
+    check_eq(line(b"~~", 0, &mut row), Ok(12))?;
+    check_eq(&row[0..14], b"1 0 empty -\n\xee\xee")?;
+    check_eq(names(&mut row), Ok(28))?;
+    check_eq(&row, b"place bytes verdict command\n\xee\xee\xee\xee")
+}
