@@ -1,14 +1,13 @@
 -- A content with its own check bytes leaves one constant, whatever the content. Assumes nothing.
 use mathlib.Core.Path.{_≡_, refl, sym, ap, _∙_}
-use mathlib.Core.List.{List, [], _∷_, _++_, append-assoc}
-use Prim.Native.Nat.{ℕ, _/_, _%_, _^_, _<_}
+use mathlib.Core.List.{[], _∷_, _++_, append-assoc}
+use Prim.Native.Nat.{ℕ, _/_, _%_, _^_}
 use native.Mathlib.Omega.{arith}
 use lib.Bits.{bitXor, xor-shr, xor-mod, xor-assoc, xor-comm, xor-self, xor-zero-r}
-use Rattle.std.specs.Iters.{folded}
 use Rattle.std.proofs.shelf.Bits.{mod-below}
 use Rattle.std.proofs.shelf.Sums.{folded-push}
 use Rattle.fcs.specs.Laws.{Nine-digits, Own-check-leaves-constant}
-use Rattle.fcs.specs.Sum.{bitStep, eightSteps, step, registerOf, fcs, checkBytes}
+use Rattle.fcs.specs.Sum.{bitStep, eightSteps, step, registerOf, fcs}
 use Rattle.fcs.proofs.Linear.{eightSteps-split, xor-swap, div-small}
 
 pub nine-digits : Nine-digits

@@ -1,12 +1,12 @@
 -- The register's steps are linear, so that its high byte and its low byte may be taken one by one. Assumes nothing.
-use mathlib.Core.Path.{_≡_, refl, sym, ap, _∙_}
+use mathlib.Core.Path.{_≡_, sym, ap, _∙_}
 use mathlib.Core.Bool.{cond}
 use mathlib.Core.Logic.{_⊎_, inl, inr}
-use Prim.Native.Nat.{ℕ, _+_, _-_, _*_, _/_, _%_, _^_, _<_}
+use Prim.Native.Nat.{ℕ, _-_, _*_, _/_, _%_, _^_, _<_}
 use native.Mathlib.Omega.{arith}
-use lib.Bits.{bitAnd, bitXor, and-comm, and-mask, xor-add-and, xor-shr, xor-mod, xor-assoc, xor-comm, xor-self, xor-zero-r, xor-shifted}
+use lib.Bits.{bitAnd, bitXor, and-comm, and-mask, xor-add-and, xor-shr, xor-mod, xor-assoc, xor-comm, xor-zero-r, xor-shifted}
 use lib.Dec.{eqb}
-use Rattle.std.proofs.shelf.Bits.{div-add-mod', mod-below, shl-shr, shr-split}
+use Rattle.std.proofs.shelf.Bits.{mod-below, shr-split}
 use Rattle.fcs.specs.Sum.{polynomial, bitStep, eightSteps, step}
 
 -- what one bit feeds back into the register

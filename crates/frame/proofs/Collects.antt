@@ -12,9 +12,8 @@ use Rattle.std.specs.declared.option.Option.{Option}
 use Rattle.std.specs.declared.option.Option.the-variants.{Some, None}
 use Rattle.std.proofs.shelf.Sums.{folded-push}
 use Rattle.std.proofs.shelf.Tests.{ltb-true, ltb-false, lt-ltb, le-ltb}
-use Rattle.frame.specs.declared.collector.Escapes.{Escapes}
 use Rattle.frame.specs.declared.collector.Escapes.the-variants.{Whole, Half, Bad}
-use Rattle.frame.specs.Collected.{Kept, kept, nothing, added, resolved, after, collect, keptOf, isWhole}
+use Rattle.frame.specs.Collected.{Kept, kept, nothing, added, resolved, collect, keptOf, isWhole}
 use Rattle.frame.specs.Escapes.{escapeByte, standsFor, before, unescaped}
 use Rattle.frame.specs.Verdicts.{longest}
 

@@ -1,27 +1,24 @@
 -- A frame written part by part, read back, and told from every other frame. Assumes nothing.
 use mathlib.Core.Path.{_≡_, refl, sym, ap, _∙_}
-use mathlib.Core.Bool.{Bool, true, false, cond, not}
+use mathlib.Core.Bool.{Bool, cond}
 use mathlib.Core.List.{List, [], _∷_, _++_, append-assoc}
-use Prim.Native.Nat.{ℕ, suc, _+_, _-_, _*_, _/_, _%_, _^_, _≤_, _<_}
+use Prim.Native.Nat.{ℕ, _+_, _-_, _*_, _^_, _≤_}
 use native.Mathlib.Omega.{arith}
 use lib.Dec.{leb}
 use lib.ListN.{length, take, getD, length-append}
 use Rattle.std.specs.Iters.{folded}
-use Rattle.std.specs.Options.{isSome, valueOr}
-use Rattle.std.specs.shelf.Lists.{All}
-use Rattle.std.specs.declared.option.Option.{Option}
-use Rattle.std.specs.declared.option.Option.the-variants.{Some, None}
+use Rattle.std.specs.Options.{valueOr}
+use Rattle.std.specs.declared.option.Option.the-variants.{Some}
 use Rattle.std.proofs.shelf.Bits.{div-add-mod'}
-use Rattle.std.proofs.shelf.Lists.{take-at, getD-at, getD-append-add, same-from-push}
-use Rattle.std.proofs.shelf.Tests.{ne-eqb, eq-eqb, le-ltb}
+use Rattle.std.proofs.shelf.Lists.{take-at, getD-append-add, same-from-push}
+use Rattle.std.proofs.shelf.Tests.{ne-eqb}
 use Rattle.fcs.specs.Sum.{fcs, checkBytes}
-use Rattle.frame.specs.declared.verdict.Verdict.the-variants.{Empty, Escape, Long, Short, Check, Good}
+use Rattle.frame.specs.declared.verdict.Verdict.the-variants.{Good}
 use Rattle.frame.specs.Escapes.{flag, escaped, unescaped}
-use Rattle.frame.specs.First.{firstOf, _⇒_}
 use Rattle.frame.specs.Frames.{checked, bodyOf, frameOf}
 use Rattle.frame.specs.Laws.{FlagFree, Frames-come-back, Equal-frames-have-equal-contents, Frame-laws}
 use Rattle.frame.specs.Lines.{Line, waiting, since, hear, heard}
-use Rattle.frame.specs.Verdicts.{longest, shortest, contentOf, due, carried, verdictOf}
+use Rattle.frame.specs.Verdicts.{due, carried, verdictOf}
 use Rattle.frame.specs.Written.{fitsInto, written}
 use Rattle.frame.proofs.Escaping.{escaped-append, undone, flag-free}
 use Rattle.frame.proofs.Judges.{good-content}
@@ -37,11 +34,6 @@ pub frame-length : (content : List ℕ) → length (frameOf content) ≡ length 
 frame-length content =
     ap length (frame-parts content)
     ∙ simp length-append (omega arith)
-
-pub low-high : (content : List ℕ) (sum : ℕ) → sum ≡ fcs content → sum < 2 ^ 16 → (sum % 256) ∷ (sum / 256 % 256) ∷ [] ≡ checkBytes content
-low-high content sum e small =
-    let high : sum / 256 % 256 ≡ sum / 256 = omega arith in
-    ap (λ h. (sum % 256) ∷ h ∷ []) high ∙ ap (λ n. (n % 256) ∷ (n / 256) ∷ []) e
 
 pub fits-frame : (content check out : List ℕ) (r : Bool) → check ≡ checkBytes content → r ≡ leb (length (escaped content) + length (escaped check) + 2) (length out) → r ≡ fitsInto (frameOf content) out
 fits-frame content check out r e told =

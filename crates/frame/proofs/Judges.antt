@@ -1,8 +1,8 @@
 -- What a collector keeps of a piece decides the verdict that the piece has, and where that is good its content. Assumes nothing.
-use mathlib.Core.Path.{_≡_, refl, sym, ap, subst, _∙_}
+use mathlib.Core.Path.{_≡_, refl, sym, ap, _∙_}
 use mathlib.Core.Bool.{Bool, true, false, cond, not}
-use mathlib.Core.List.{List, [], _∷_, _++_}
-use Prim.Native.Nat.{ℕ, zero, suc, _+_, _≤_, _<_}
+use mathlib.Core.List.{List, [], _∷_}
+use Prim.Native.Nat.{ℕ, suc, _≤_, _<_}
 use native.Mathlib.Omega.{arith}
 use lib.Dec.{eqb, ltb}
 use lib.ListN.{length, take, length-take}
@@ -11,14 +11,13 @@ use Rattle.std.specs.Options.{isSome, valueOr}
 use Rattle.std.specs.declared.option.Option.{Option}
 use Rattle.std.specs.declared.option.Option.the-variants.{Some, None}
 use Rattle.std.proofs.shelf.Tests.{ltb-false, le-ltb, eq-eqb, ne-eqb}
-use Rattle.frame.specs.declared.collector.Escapes.the-variants.{Whole}
 use Rattle.frame.specs.declared.verdict.Verdict.{Verdict}
 use Rattle.frame.specs.declared.verdict.Verdict.the-variants.{Empty, Escape, Long, Short, Check, Good}
-use Rattle.frame.specs.Collected.{Kept, kept, nothing, keptOf, isWhole, judged, judgedWhole}
+use Rattle.frame.specs.Collected.{Kept, keptOf, isWhole, judged, judgedWhole}
 use Rattle.frame.specs.Escapes.{escapeByte, standsFor, before, unescaped}
 use Rattle.frame.specs.First.{firstOf, _⇒_}
 use Rattle.frame.specs.Verdicts.{longest, shortest, contentOf, due, carried, verdictOf}
-use Rattle.frame.proofs.Collects.{Leaves, filled, collects}
+use Rattle.frame.proofs.Collects.{Leaves, collects}
 
 -- a content that came from some byte has some byte
 abbrev Some-byte : Option (List ℕ) → Type 0

@@ -6,6 +6,7 @@ ghost use Prim.Native.Nat.{_+_, _-_, _≤_, _<_};
 ghost use lib.Dec.{leb};
 ghost use lib.ListN.{length};
 ghost use Rattle.std.specs.declared.option.Option.the-variants.{Some, None};
+ghost use Rattle.fcs.specs.Sum.{checkBytes};
 ghost use Rattle.frame.specs.Escapes.{escapedByte, escaped};
 ghost use Rattle.frame.specs.Frames.{frameOf};
 ghost use Rattle.frame.specs.Laws.{Frame-laws};
@@ -22,7 +23,7 @@ pub fn write_frame(content: &[u8], out: &mut [u8]) -> Option<usize>
     ensures bytes { λ _. ⌜ now (out .exit) ≡ cond (fitsInto (frameOf (now (content .entry))) (now (out .entry))) (written (now (out .entry)) 0 (frameOf (now (content .entry)))) (now (out .entry)) ⌝ }
     ensures laws { λ _. ⌜ Frame-laws ⌝ }
 {
-    let check = fcs16(content).to_le_bytes();
+    let check = check_bytes(content);
     if !fits(content, &check, out.len()) {
         return None;
     }
@@ -31,6 +32,13 @@ pub fn write_frame(content: &[u8], out: &mut [u8]) -> Option<usize>
     let at = put_escaped(out, at, &check);
     out[at] = FLAG;
     Some(at + 1)
+}
+
+// The two check bytes of a content, the low byte first.
+fn check_bytes(content: &[u8]) -> [u8; 2]
+    ensures { λ r. ⌜ r ≡ checkBytes (now (content .entry)) ⌝ }
+{
+    fcs16(content).to_le_bytes()
 }
 
 // Whether a frame of these bytes and the two flags fit into a buffer of this length.

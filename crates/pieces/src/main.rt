@@ -1,7 +1,6 @@
 // Lists a recorded line, read from standard input, piece by piece.
 ghost use Prim.Native.Nat.{_≤_};
 ghost use lib.ListN.{length};
-ghost use mathlib.Core.Path.{_≡_};
 ghost use Rattle.std.specs.Vec.{made};
 use recording::listing::LINE_ROOM;
 use recording::listing::line;

@@ -4,7 +4,6 @@ use mathlib.Core.Bool.{Bool, true, false, cond, not, _&&_}
 use mathlib.Core.Logic.{⊎-elim}
 use mathlib.Core.List.{List, [], _∷_, _++_, append-assoc, append-nil}
 use Prim.Native.Nat.{ℕ, zero, suc, _+_, _-_, _≤_, _<_, min}
-use native.Mathlib.Nat.{add-zero}
 use native.Mathlib.Numerals.{one-add}
 use native.Mathlib.Omega.{arith}
 use lib.Dec.{eqb, ltb}
@@ -14,7 +13,7 @@ use Rattle.std.specs.shelf.Lists.{All, leading}
 use Rattle.std.specs.declared.option.Option.{Option}
 use Rattle.std.proofs.shelf.Ways.{tells}
 use Rattle.std.proofs.shelf.Lists.{drop-drop, drop-all, drop-more, getD-drop}
-use Rattle.std.proofs.shelf.Tests.{eqb-true, eqb-false, eq-eqb, ne-eqb, ltb-false, and-parts, cases-eq, cond-true, cond-false}
+use Rattle.std.proofs.shelf.Tests.{eqb-true, eqb-false, eq-eqb, ne-eqb, ltb-false, and-parts, cases-eq}
 use Rattle.frame.specs.Escapes.{flag}
 use Rattle.frame.specs.Laws.{FlagFree}
 use Rattle.frame.specs.Verdicts.{verdictOf}
@@ -22,9 +21,9 @@ use Rattle.recording.specs.declared.status.Mark.{Mark}
 use Rattle.recording.specs.declared.status.Mark.the-variants.{Open, Stray, Closed}
 use Rattle.recording.specs.declared.status.Refusal.the-variants.{LongRecording, PlaceBeyond}
 use Rattle.recording.specs.declared.status.Status.{Status}
-use Rattle.recording.specs.declared.status.Status.the-variants.{Refused, End, Piece}
-use Rattle.recording.specs.Laws.{Calls, ended, called, closingFlag, spelled, passedOver, Covered, Pieces-cover-the-recording, None-only-at-the-end}
-use Rattle.recording.specs.Pieces.{limit, startAt, plain, runFrom, statusOf, Answer, refusedAt, runAt, pieceAt}
+use Rattle.recording.specs.declared.status.Status.the-variants.{End, Piece}
+use Rattle.recording.specs.Laws.{Calls, ended, called, closingFlag, spelled, passedOver, Pieces-cover-the-recording, None-only-at-the-end}
+use Rattle.recording.specs.Pieces.{limit, startAt, plain, runFrom, Answer, refusedAt, runAt, pieceAt}
 use Rattle.recording.proofs.Readings.{not-refused}
 use Rattle.recording.proofs.Runs.{reach, length-run, run-within, start-stays, start-within}
 

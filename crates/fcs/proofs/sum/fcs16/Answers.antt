@@ -1,9 +1,6 @@
 use mathlib.Core.Path.{ap, _∙_}
-use native.Mathlib.Omega.{arith}
 use lib.Bits.{bitXor}
-use lib.ListN.{take}
 use lib.Seq.{take-all}
-use borrow.Author.Needs.{needs}
 use Rattle.std.proofs.shelf.Sums.{folded-more}
 use Rattle.fcs.specs.Sum.{step, registerOf, fcs}
 use Rattle.fcs.proofs.Constant.{nine-digits, own-check}

@@ -5,17 +5,16 @@ use native.Mathlib.Omega.{arith}
 use lib.ListN.{length, length-set}
 use Rattle.std.specs.declared.option.Option.the-variants.{Some}
 use Rattle.std.proofs.shelf.Tests.{cond-true, cond-false, leb-true}
-use Rattle.fcs.specs.Sum.{checkBytes}
 use Rattle.frame.specs.Escapes.{flag, escaped}
 use Rattle.frame.specs.Frames.{frameOf}
 use Rattle.frame.specs.Written.{written}
-use Rattle.frame.proofs.Framing.{frame-parts, frame-length, low-high, fits-frame, write-parts, frame-laws}
+use Rattle.frame.proofs.Framing.{frame-parts, frame-length, fits-frame, write-parts, frame-laws}
 use Rattle.frame.proofs.Writes.{written-byte}
 use Rattle.frame.proofs.writer.write_frame.Needs as need
 
 pub returns-then-not-fits : need.returns-then-not-fits
 returns-then-not-fits c =
-    let check = c .to-le-bytes-check .ensures ∙ low-high (c .args .content .now) (c .fcs16 .result) (c .fcs16 .ensures .value) (c .fcs16 .ok) in
+    let check = c .check-bytes-check .ensures in
     let none = sym (fits-frame (c .args .content .now) _ (c .args .out .now) (c .fits-2 .result) check (c .fits-2 .ensures)) ∙ c .if-not-fits .taken in
     record { count = sym (cond-false _ _ _ none); bytes = sym (cond-false _ _ _ none); laws = frame-laws }
 
@@ -25,7 +24,7 @@ returns c =
     let out = c .args .out .now in
     let first = c .put-escaped-at in
     let second = c .put-escaped-at-2 in
-    let check = c .to-le-bytes-check .ensures ∙ low-high content (c .fcs16 .result) (c .fcs16 .ensures .value) (c .fcs16 .ok) in
+    let check = c .check-bytes-check .ensures in
     let fit = sym (fits-frame content _ out (c .fits-2 .result) check (c .fits-2 .ensures)) ∙ c .if-not-fits .left in
     let room : length (frameOf content) ≤ length out = leb-true _ _ fit in
     let tail = ap (λ l. length (escaped l)) check in
@@ -36,7 +35,7 @@ returns c =
       count = sym (cond-true _ _ _ fit ∙ ap Some long);
       bytes =
           written-byte (second .last .out) (second .result) flag closed
-          ∙ write-parts out _ (first .last .out) (second .last .out) (escaped content) (escaped (c .to-le-bytes-check .result)) (first .result) (second .result) opened (first .ensures .bytes) (first .ensures .place) (second .ensures .bytes) (second .ensures .place)
+          ∙ write-parts out _ (first .last .out) (second .last .out) (escaped content) (escaped (c .check-bytes-check .result)) (first .result) (second .result) opened (first .ensures .bytes) (first .ensures .place) (second .ensures .bytes) (second .ensures .place)
           ∙ ap (written out 0) (ap (λ l. flag ∷ ((escaped content ++ escaped l) ++ flag ∷ [])) check ∙ sym (frame-parts content))
           ∙ sym (cond-true _ _ _ fit);
       laws = frame-laws;

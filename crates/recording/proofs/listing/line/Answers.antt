@@ -1,7 +1,6 @@
-use mathlib.Core.Path.{_≡_, sym, ap, subst, _∙_}
+use mathlib.Core.Path.{sym, ap, subst, _∙_}
 use native.Mathlib.Omega.{arith}
-use Rattle.recording.specs.declared.status.Status.the-variants.{Piece}
-use Rattle.recording.specs.Pieces.{Answer, pieceAt}
+use Rattle.recording.specs.Pieces.{Answer}
 use Rattle.frame.proofs.Writes.{written-nothing}
 use Rattle.recording.specs.Listing.{counted, filled}
 use Rattle.recording.proofs.Readings.{Small, piece-small, no-text}

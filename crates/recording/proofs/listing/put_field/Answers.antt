@@ -1,6 +1,3 @@
-use mathlib.Core.Path.{_≡_, sym, ap, _∙_}
-use native.Mathlib.Omega.{arith}
-use borrow.Author.Needs.{needs}
 use Rattle.recording.proofs.Fields.{field-length, text-then}
 use Rattle.recording.proofs.listing.put_field.Needs as need
 

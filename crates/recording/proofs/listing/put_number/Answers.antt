@@ -1,6 +1,6 @@
-use mathlib.Core.Path.{_≡_, sym, ap, _∙_}
+use mathlib.Core.Path.{ap, _∙_}
 use Prim.Native.Nat.{_+_}
-use lib.ListN.{length, set}
+use lib.ListN.{set}
 use Rattle.std.specs.Written.{decimal}
 use Rattle.recording.proofs.Fields.{field-length, after-text}
 use Rattle.recording.proofs.listing.put_number.Needs as need
