@@ -8,6 +8,7 @@ use native.Mathlib.Numerals.{one-add}
 use native.Mathlib.Omega.{arith}
 use lib.Dec.{eqb, ltb}
 use lib.ListN.{length, take, drop, getD, length-drop, take-append-drop}
+use Rattle.std.specs.Options.{isSome}
 use Rattle.std.specs.Joined.{joined}
 use Rattle.std.specs.shelf.Lists.{All, leading}
 use Rattle.std.specs.declared.option.Option.{Option}
@@ -23,7 +24,7 @@ use Rattle.recording.specs.declared.status.Refusal.the-variants.{LongRecording
 use Rattle.recording.specs.declared.status.Status.{Status}
 use Rattle.recording.specs.declared.status.Status.the-variants.{End, Piece}
 use Rattle.recording.specs.Laws.{Calls, ended, called, closingFlag, spelled, passedOver, Pieces-cover-the-recording, None-only-at-the-end}
-use Rattle.recording.specs.Pieces.{limit, startAt, plain, runFrom, Answer, refusedAt, runAt, pieceAt}
+use Rattle.recording.specs.Pieces.{limit, startAt, plain, runFrom, Answer, refusedAt, runAt, pieceAt, onward, answersFrom}
 use Rattle.recording.proofs.Readings.{not-refused}
 use Rattle.recording.proofs.Runs.{reach, length-run, run-within, start-stays, start-within}
 
@@ -107,15 +108,14 @@ module _ (bytes : List ℕ) (s : ℕ) (within : s ≤ length bytes) (command : O
       closed-run (Closed (verdictOf (runFrom bytes s))) refl (omega (arith, run-within bytes s within))
 
 module _ (bytes : List ℕ) (short : length bytes ≤ limit) where
-  onward : (place : ℕ) → place ≤ length bytes → Onward bytes (startAt bytes place) (pieceAt bytes place)
-  onward place within =
+  next-call : (place : ℕ) → place ≤ length bytes → Onward bytes (startAt bytes place) (pieceAt bytes place)
+  next-call place within =
       let s = startAt bytes place in
       subst (Onward bytes s) (sym (not-refused bytes place short within))
       (onward-at bytes s (start-within bytes place within) (runAt bytes s .command) (eqb s (length bytes)) (eqb (stop bytes s) (length bytes)) (eqb s 0) refl refl)
 
-  -- the calls from a place, and what they cover
-  record Going (place : ℕ) : Type 0 where
-    answers : List Answer
+  -- what the answers from a place cover
+  record Going (place : ℕ) (answers : List Answer) : Type 0 where
     calls : Calls bytes place answers
     covers : joined spelled answers ≡ drop (startAt bytes place) bytes
     flag-free : All (λ (answer : Answer). FlagFree (answer .raw)) answers
@@ -126,27 +126,46 @@ module _ (bytes : List ℕ) (short : length bytes ≤ limit) where
   stays : (place : ℕ) → 0 < place → place ≡ startAt bytes place
   stays place some = start-stays bytes place (λ zero flagged. omega arith)
 
-  one-call : (place : ℕ) → Onward bytes (startAt bytes place) (pieceAt bytes place) → ((next : ℕ) → startAt bytes place < next → next ≤ length bytes → Going next) → Going place
-  one-call place (at-end is whole) rest = record {
-    answers = [];
+  none-left : (place : ℕ) → pieceAt bytes place .status ≡ End → startAt bytes place ≡ length bytes → Going place []
+  none-left place is whole = record {
     calls = ended is;
     covers = sym (drop-all (startAt bytes place) bytes (omega arith));
     flag-free = tt;
   }
-  one-call place (goes-on mark is splits more inside free) rest =
+
+  -- one call with the piece that it gave, and the calls after it
+  one-more : (place : ℕ) (mark : Mark) (after : List Answer) → pieceAt bytes place .status ≡ Piece mark → spelled (pieceAt bytes place) ++ drop (pieceAt bytes place .next) bytes ≡ drop (startAt bytes place) bytes → startAt bytes place < pieceAt bytes place .next → FlagFree (pieceAt bytes place .raw) → Going (pieceAt bytes place .next) after → Going place (pieceAt bytes place ∷ after)
+  one-more place mark after is splits more free rest =
       let next = pieceAt bytes place .next in
-      let after = rest next more inside in
       record {
-        answers = pieceAt bytes place ∷ after .answers;
-        calls = called is (after .calls);
-        covers = ap (λ l. spelled (pieceAt bytes place) ++ l) (after .covers ∙ ap (λ n. drop n bytes) (sym (stays next (omega arith)))) ∙ splits;
-        flag-free = (free, after .flag-free);
+        calls = called is (rest .calls);
+        covers = ap (λ l. spelled (pieceAt bytes place) ++ l) (rest .covers ∙ ap (λ n. drop n bytes) (sym (stays next (omega arith)))) ∙ splits;
+        flag-free = (free, rest .flag-free);
       }
 
+  answers-end : (n : ℕ) (place : ℕ) → pieceAt bytes place .status ≡ End → [] ≡ answersFrom n bytes place
+  unfolding answersFrom
+  answers-end zero place is = refl
+  answers-end (suc n) place is = sym (ap (λ s. cond (isSome (onward s (pieceAt bytes place .next))) (pieceAt bytes place ∷ answersFrom n bytes (pieceAt bytes place .next)) []) is)
+
+  answers-more : (n : ℕ) (place : ℕ) (mark : Mark) → pieceAt bytes place .status ≡ Piece mark → pieceAt bytes place ∷ answersFrom n bytes (pieceAt bytes place .next) ≡ answersFrom (suc n) bytes place
+  unfolding answersFrom
+  answers-more n place mark is = sym (ap (λ s. cond (isSome (onward s (pieceAt bytes place .next))) (pieceAt bytes place ∷ answersFrom n bytes (pieceAt bytes place .next)) []) is)
+
+  from-here : (n : ℕ) (place : ℕ) → Onward bytes (startAt bytes place) (pieceAt bytes place) → ((next : ℕ) → startAt bytes place < next → next ≤ length bytes → Going next (answersFrom n bytes next)) → Going place (answersFrom (suc n) bytes place)
+  from-here n place (at-end is whole) rest = subst (Going place) (answers-end (suc n) place is) (none-left place is whole)
+  from-here n place (goes-on mark is splits more inside free) rest =
+      subst (Going place) (answers-more n place mark is)
+      (one-more place mark (answersFrom n bytes (pieceAt bytes place .next)) is splits more free (rest (pieceAt bytes place .next) more inside))
+
+  at-last : (place : ℕ) → length bytes ≤ place → Onward bytes (startAt bytes place) (pieceAt bytes place) → Going place (answersFrom 0 bytes place)
+  at-last place past (at-end is whole) = subst (Going place) (answers-end 0 place is) (none-left place is whole)
+  at-last place past (goes-on mark is splits more inside free) = absurd (omega (arith, begins place))
+
   -- each call goes on beyond its place, so that as many calls as there are bytes suffice
-  go : (n : ℕ) (place : ℕ) → length bytes ≤ place + n → place ≤ length bytes → Going place
-  go zero place enough within = one-call place (onward place within) (λ next more inside. absurd (omega (arith, begins place)))
-  go (suc n) place enough within = one-call place (onward place within) (λ next more inside. go n next (omega (arith, begins place)) inside)
+  go : (n : ℕ) (place : ℕ) → length bytes ≤ place + n → place ≤ length bytes → Going place (answersFrom n bytes place)
+  go zero place enough within = at-last place (omega arith) (next-call place within)
+  go (suc n) place enough within = from-here n place (next-call place within) (λ next more inside. go n next (omega (arith, begins place)) inside)
 
 passed-at : (t : Bool) (bytes : List ℕ) (place : ℕ) → (eqb place 0 && eqb (getD bytes 0 0) flag) ≡ t → cond t (flag ∷ []) [] ++ drop (cond t 1 place) bytes ≡ drop place bytes
 passed-at true [] place e = let first = eqb-true 0 flag (and-parts (eqb place 0) (eqb 0 flag) e .1) in absurd (omega arith)
@@ -160,14 +179,12 @@ passed bytes place = passed-at (eqb place 0 && eqb (getD bytes 0 0) flag) bytes 
 
 pub covers-all : Pieces-cover-the-recording
 covers-all bytes place short within =
-    let all = go bytes short (length bytes) place (omega arith) within in (
-      all .answers,
-      record {
-        calls = all .calls;
-        covers = ap (λ l. passedOver bytes place ++ l) (all .covers) ∙ passed bytes place;
-        flag-free = all .flag-free;
-      },
-    )
+    let all = go bytes short (length bytes) place (omega arith) within in
+    record {
+      calls = all .calls;
+      covers = ap (λ l. passedOver bytes place ++ l) (all .covers) ∙ passed bytes place;
+      flag-free = all .flag-free;
+    }
 
 ending : (bytes : List ℕ) (s : ℕ) (a : Answer) → Onward bytes s a → a .status ≡ End → drop s bytes ≡ []
 ending bytes s a (at-end is whole) end = drop-all s bytes (omega arith)
@@ -178,7 +195,7 @@ none-at true u bytes place long beyond is end = let z : _≡_ {A = ℕ} 0 1 = cc
 none-at false true bytes place long beyond is end = let z : _≡_ {A = ℕ} 0 1 = cc in absurd (omega arith)
 none-at false false bytes place long beyond is end =
     ending bytes (startAt bytes place) (pieceAt bytes place)
-    (onward bytes (ltb-false limit (length bytes) long) place (ltb-false (length bytes) place beyond)) end
+    (next-call bytes (ltb-false limit (length bytes) long) place (ltb-false (length bytes) place beyond)) end
 
 pub none-at-end : None-only-at-the-end
 unfolding pieceAt

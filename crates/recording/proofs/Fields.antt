@@ -3,9 +3,9 @@ use mathlib.Core.Path.{_≡_, ap, _∙_}
 use mathlib.Core.List.{List, [], _∷_, _++_, append-assoc}
 use Prim.Native.Nat.{ℕ, _+_, _-_, _≤_, _<_}
 use native.Mathlib.Omega.{arith}
-use lib.ListN.{length, set, drop, length-append}
+use lib.ListN.{length, set, take, drop, length-append}
 use borrow.Rule.Slice.PartMut.{putMid}
-use Rattle.std.proofs.shelf.Lists.{drop-drop}
+use Rattle.std.proofs.shelf.Lists.{drop-drop, take-at}
 use Rattle.std.specs.Written.{decimal}
 use Rattle.std.proofs.shelf.Decimals.{length-decimal-le}
 use Rattle.frame.specs.declared.verdict.Verdict.the-variants.{Empty, Escape, Long, Short, Check, Good}
@@ -71,3 +71,8 @@ write-fields old o1 o2 o3 a b c d p q s e1 ep e2 eq e3 es =
 
 pub fields-length : (a b c d : List ℕ) (p q s r : ℕ) → p ≡ 0 + length a → q ≡ p + length b → s ≡ q + length c → r ≡ s + length d → r ≡ length (a ++ (b ++ (c ++ d)))
 fields-length a b c d p q s r ep eq es er = omega (arith, length-append a (b ++ (c ++ d)), length-append b (c ++ d), length-append c d)
+
+-- what was written at the buffer's start is its front
+pub front-written : (old new text : List ℕ) (count : ℕ) → new ≡ written old 0 text → count ≡ length text → take (count - 0) new ≡ text
+unfolding written
+front-written old new text count e n = (λ i. take (n i - 0) (e i)) ∙ take-at text (drop (0 + length text) old) (length text - 0) (omega arith)

@@ -13,7 +13,7 @@ use Rattle.recording.specs.declared.status.Mark.{Mark}
 use Rattle.recording.specs.declared.status.Mark.the-variants.{Open, Stray, Closed}
 use Rattle.recording.specs.declared.status.Status.{Status}
 use Rattle.recording.specs.declared.status.Status.the-variants.{Refused, End, Piece}
-use Rattle.recording.specs.Pieces.{limit, startAt, Answer, pieceAt}
+use Rattle.recording.specs.Pieces.{limit, startAt, Answer, pieceAt, answersFrom}
 
 -- the answers of calls made one after another, each at the place that the one before gave, until the end
 pub data Calls (bytes : List ℕ) : ℕ → List Answer → Type 0 where
@@ -44,7 +44,7 @@ pub record Covered (bytes : List ℕ) (place : ℕ) (answers : List Answer) : Ty
 
 -- the calls end, whatever the recording and wherever they begin; from place 0 on they cover it whole
 abbrev pub Pieces-cover-the-recording : Type 0
-Pieces-cover-the-recording = (bytes : List ℕ) (place : ℕ) → length bytes ≤ limit → place ≤ length bytes → (answers : List Answer) × Covered bytes place answers
+Pieces-cover-the-recording = (bytes : List ℕ) (place : ℕ) → length bytes ≤ limit → place ≤ length bytes → Covered bytes place (answersFrom (length bytes) bytes place)
 
 -- no piece is said to be left only where no byte is left
 abbrev pub None-only-at-the-end : Type 0

@@ -5,6 +5,7 @@ use Prim.Native.Nat.{ℕ}
 use lib.Chars.{codes}
 use lib.Dec.{ltb}
 use lib.ListN.{length}
+use Rattle.std.specs.Joined.{joined}
 use Rattle.std.specs.Written.{decimal}
 use Rattle.std.specs.declared.option.Option.{Option}
 use Rattle.std.specs.declared.option.Option.the-variants.{Some, None}
@@ -16,7 +17,7 @@ use Rattle.recording.specs.declared.status.Refusal.{Refusal}
 use Rattle.recording.specs.declared.status.Refusal.the-variants.{ShortBuffer}
 use Rattle.recording.specs.declared.status.Status.{Status}
 use Rattle.recording.specs.declared.status.Status.the-variants.{Refused, End, Piece}
-use Rattle.recording.specs.Pieces.{pieceAt}
+use Rattle.recording.specs.Pieces.{limit, Answer, pieceAt, answersOf}
 use Rattle.recording.specs.Statuses.{markName}
 
 -- a line buffer has at least this many bytes
@@ -70,3 +71,20 @@ counted (Err refusal) = Err refusal
 abbrev pub filled : List ℕ → Result (List ℕ) Refusal → List ℕ
 filled buffer (Ok text) = written buffer 0 text
 filled buffer (Err refusal) = buffer
+
+-- the text, or none of it where there is a refusal
+abbrev pub orNothing : Result (List ℕ) Refusal → List ℕ
+orNothing (Ok text) = text
+orNothing (Err refusal) = []
+
+-- the line for an answer: only a piece has one
+abbrev pub lineFor : Answer → List ℕ
+lineFor answer = orNothing (textOf (answer .status) (answer .start) (length (answer .raw)) (answer .command))
+
+-- in place of a listing where the recording is too long
+abbrev pub refusedLine : List ℕ
+refusedLine = field (codes "refused 202") lineFeed
+
+-- the whole listing: the names and a line for each piece, or why there is none
+unfoldable pub listingOf : List ℕ → List ℕ
+listingOf bytes = cond (ltb limit (length bytes)) refusedLine (namesLine ++ joined lineFor (answersOf bytes))

@@ -1,10 +1,11 @@
 -- The piece that a place in a recording speaks of, and the place to go on. Assumes nothing.
 use mathlib.Core.Bool.{Bool, cond, not, _&&_}
 use mathlib.Core.List.{List, [], _∷_}
-use Prim.Native.Nat.{ℕ, _+_, min}
+use Prim.Native.Nat.{ℕ, zero, suc, _+_, min}
 use lib.Dec.{eqb, ltb}
 use lib.ListN.{length, take, drop, getD}
 use Rattle.std.specs.shelf.Lists.{leading}
+use Rattle.std.specs.Options.{isSome}
 use Rattle.std.specs.declared.option.Option.{Option}
 use Rattle.std.specs.declared.option.Option.the-variants.{Some, None}
 use Rattle.frame.specs.declared.verdict.Verdict.{Verdict}
@@ -104,3 +105,22 @@ pieceAt bytes place =
 -- a reading, with the bytes that it borrows
 abbrev pub answered : Reading → Answer
 answered r = record { status = r .status; start = r .start; raw = r .raw .now; next = r .next; command = r .command }
+
+-- where a piece goes on; nothing else does
+abbrev pub onward : Status → ℕ → Option ℕ
+onward (Refused r) next = None
+onward End next = None
+onward (Piece mark) next = Some next
+
+abbrev pub onwardFrom : Answer → Option ℕ
+onwardFrom answer = onward (answer .status) (answer .next)
+
+-- the answers of calls made one after another, each at the place that the one before gave, as long as pieces come: at most so many
+unfoldable pub answersFrom : ℕ → List ℕ → ℕ → List Answer
+answersFrom zero bytes place = []
+answersFrom (suc n) bytes place =
+    cond (isSome (onwardFrom (pieceAt bytes place))) (pieceAt bytes place ∷ answersFrom n bytes (pieceAt bytes place .next)) []
+
+-- the pieces of a recording: it has no more of them than bytes
+abbrev pub answersOf : List ℕ → List Answer
+answersOf bytes = answersFrom (length bytes) bytes 0

@@ -2,3 +2,4 @@
 pub mod listing;
 pub mod reader;
 pub mod status;
+mod writing;

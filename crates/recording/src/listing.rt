@@ -1,20 +1,26 @@
 // The listing of a recording: the names line, and the line of a piece.
 ghost use mathlib.Core.Path.{_≡_};
-ghost use mathlib.Core.List.{[], _∷_};
+ghost use mathlib.Core.List.{_++_};
 ghost use Prim.Native.Nat.{_+_, _≤_, _<_};
-ghost use lib.ListN.{length};
+ghost use Rattle.std.specs.Of.Vec.{vec-items};
 ghost use Rattle.std.specs.Vec.{made};
-ghost use Rattle.std.specs.Written.{decimal};
 ghost use Rattle.std.specs.declared.result.Result.the-variants.{Ok};
-ghost use Rattle.frame.specs.Written.{written};
-ghost use Rattle.recording.specs.Listing.{field, commandText, lineOf, namesLine, lineAt, into, counted, filled};
+ghost use Rattle.recording.specs.Listing.{field, namesLine, lineAt, into, counted, filled, lineFor, listingOf};
+ghost use Rattle.recording.specs.Pieces.{pieceAt, onwardFrom};
+use crate::reader::LIMIT;
 use crate::reader::read;
-use crate::status::Mark;
 use crate::status::Refusal;
 use crate::status::Status;
+use crate::writing::put_field;
+use crate::writing::put_line;
+use std::alloc::AllocError;
+use std::alloc::Global;
 
 // A shorter line buffer is refused; no line is longer than this.
 pub const LINE_ROOM: usize = 32;
+
+// The names of a listing line's fields.
+const NAMES: &[u8] = b"place bytes verdict command";
 
 // Writes the names line and answers its length.
 pub fn names(out: &mut [u8]) -> Result<usize, Refusal>
@@ -25,7 +31,7 @@ pub fn names(out: &mut [u8]) -> Result<usize, Refusal>
     if out.len() < LINE_ROOM {
         return Err(Refusal::ShortBuffer);
     }
-    Ok(put_field(out, 0, b"place bytes verdict command", b'\n'))
+    Ok(put_field(out, 0, NAMES, b'\n'))
 }
 
 // Writes the listing line of the piece that a place speaks of, and answers its length: 0 at the end.
@@ -51,75 +57,56 @@ pub fn line(recording: &[u8], place: usize, out: &mut [u8]) -> Result<usize, Ref
     }
 }
 
-// Writes the four fields of a line.
-fn put_line(out: &mut [u8], start: usize, count: usize, mark: Mark, command: Option<u8>) -> usize
-    requires long { ⌜ 32 ≤ length (now out) ⌝ }
-    requires start { ⌜ start ≤ 65536 ⌝ }
-    requires count { ⌜ count ≤ 65536 ⌝ }
-    ensures place { λ r. ⌜ r ≡ length (lineOf start count mark command) ⌝ }
-    ensures bytes { λ _. ⌜ now (out .exit) ≡ written (now (out .entry)) 0 (lineOf start count mark command) ⌝ }
-    ensures within { λ r. ⌜ r ≤ 32 ⌝ }
+// The whole listing: the names line and a line for each piece; one line that says so where the recording is too long.
+pub fn list(heap: Global, recording: &[u8]) -> Result<Vec<u8>, AllocError>
+    ensures { λ r. ⌜ made r (λ v. vec-items v ≡ listingOf (now (recording .entry))) ⌝ }
 {
-    let at = put_number(out, 0, start, b' ');
-    let at = put_number(out, at, count, b' ');
-    let at = put_field(out, at, mark.name().as_bytes(), b' ');
-    put_command(out, at, command, b'\n')
-}
-
-// Writes a command in decimal, or a hyphen, and what stands after it.
-fn put_command(out: &mut [u8], at: usize, command: Option<u8>, after: u8) -> usize
-    requires { ⌜ at + 4 ≤ length (now out) ⌝ }
-    ensures place { λ r. ⌜ r ≡ at + length (field (commandText command) after) ⌝ }
-    ensures bytes { λ _. ⌜ now (out .exit) ≡ written (now (out .entry)) at (field (commandText command) after) ⌝ }
-    ensures within { λ r. ⌜ r ≤ at + 4 ⌝ }
-{
-    match command {
-        Some(command) => put_number(out, at, usize::from(command), after),
-        None => put_field(out, at, b"-", after),
+    let mut text = Vec::new(heap);
+    if recording.len() > LIMIT {
+        append_words(&mut text, b"refused 202")?;
+        return Ok(text);
     }
-}
-
-// Writes a number in decimal and what stands after it.
-fn put_number(out: &mut [u8], at: usize, number: usize, after: u8) -> usize
-    requires { ⌜ at + length (decimal number) < length (now out) ⌝ }
-    ensures place { λ r. ⌜ r ≡ at + length (field (decimal number) after) ⌝ }
-    ensures bytes { λ _. ⌜ now (out .exit) ≡ written (now (out .entry)) at (field (decimal number) after) ⌝ }
-{
-    let at = put_decimal(out, at, number);
-    out[at] = after;
-    at + 1
-}
-
-// Writes a text and what stands after it.
-fn put_field(out: &mut [u8], at: usize, text: &[u8], after: u8) -> usize
-    requires { ⌜ at + length (now text) < length (now out) ⌝ }
-    ensures place { λ r. ⌜ r ≡ at + length (field (now (text .entry)) after) ⌝ }
-    ensures bytes { λ _. ⌜ now (out .exit) ≡ written (now (out .entry)) at (field (now (text .entry)) after) ⌝ }
-{
-    let end = at + text.len();
-    out[at..end].copy_from_slice(text);
-    out[end] = after;
-    end + 1
-}
-
-// Writes a number in decimal: the digits before the last one, then that.
-fn put_decimal(out: &mut [u8], at: usize, number: usize) -> usize
-    requires { ⌜ at + length (decimal number) ≤ length (now out) ⌝ }
-    ensures place { λ r. ⌜ r ≡ at + length (decimal number) ⌝ }
-    ensures bytes { λ _. ⌜ now (out .exit) ≡ written (now (out .entry)) at (decimal number) ⌝ }
-{
-    if number < 10 {
-        return put_digit(out, at, number);
+    append_words(&mut text, NAMES)?;
+    let mut place = 0;
+    for _turn in 0..recording.len() {
+        let Some(next) = append_line(&mut text, recording, place)? else {
+            return Ok(text);
+        };
+        place = next;
     }
-    let last = put_decimal(out, at, number / 10);
-    put_digit(out, last, number % 10)
+    Ok(text)
 }
 
-fn put_digit(out: &mut [u8], at: usize, digit: usize) -> usize
-    requires { ⌜ at < length (now out) ⌝ ∗ ⌜ digit < 10 ⌝ }
-    ensures place { λ r. ⌜ r ≡ at + 1 ⌝ }
-    ensures bytes { λ _. ⌜ now (out .exit) ≡ written (now (out .entry)) at ((48 + digit) ∷ []) ⌝ }
+// Appends words and a line feed.
+fn append_words(text: &mut Vec<u8>, words: &[u8]) -> Result<(), AllocError>
+    ensures { λ r. ⌜ made r (λ _. vec-items (now (text .exit)) ≡ vec-items (now (text .entry)) ++ field (now (words .entry)) 10) ⌝ }
 {
-    out[at] = b'0' + digit as u8;
-    at + 1
+    text.extend_from_slice(words)?;
+    text.push(b'\n')?;
+    Ok(())
+}
+
+// Appends the line of the piece that a place speaks of, and answers the place to go on: none where there is no piece.
+fn append_line(
+    text: &mut Vec<u8>,
+    recording: &[u8],
+    place: usize,
+) -> Result<Option<usize>, AllocError>
+    ensures next { λ r. ⌜ made r (λ next. next ≡ onwardFrom (pieceAt (now (recording .entry)) place)) ⌝ }
+    ensures text { λ r. ⌜ made r (λ _. vec-items (now (text .exit)) ≡ vec-items (now (text .entry)) ++ lineFor (pieceAt (now (recording .entry)) place)) ⌝ }
+{
+    let reading = read(recording, place);
+    let Status::Piece(mark) = reading.status else {
+        return Ok(None);
+    };
+    let mut row = [0; LINE_ROOM];
+    let count = put_line(
+        &mut row,
+        reading.start,
+        reading.raw.len(),
+        mark,
+        reading.command,
+    );
+    text.extend_from_slice(&row[0..count])?;
+    Ok(Some(reading.next))
 }

@@ -3,6 +3,7 @@ ghost use mathlib.Core.Path.{_≡_};
 ghost use Prim.Native.Nat.{_+_, _-_, _≤_};
 ghost use lib.ListN.{length, take, drop};
 ghost use Rattle.frame.specs.Collected.{Collected};
+ghost use Rattle.recording.specs.Cases.{Worked-listing};
 ghost use Rattle.recording.specs.Laws.{Pieces-cover-the-recording, None-only-at-the-end};
 ghost use Rattle.recording.specs.Pieces.{startAt, runFrom, statusOf, commandOf, commandIn, refusedAt, pieceAt, answered};
 ghost use Rattle.recording.specs.Statuses.{statusNumber};
@@ -37,6 +38,7 @@ pub fn piece(recording: &[u8], place: usize) -> (u16, &[u8], usize)
     ensures next { λ r. ⌜ r .2 ≡ pieceAt (now (recording .entry)) place .next ⌝ }
     ensures covers { λ _. ⌜ Pieces-cover-the-recording ⌝ }
     ensures none { λ _. ⌜ None-only-at-the-end ⌝ }
+    ensures worked { λ _. ⌜ Worked-listing ⌝ }
 {
     let reading = read(recording, place);
     (reading.status.number(), reading.raw, reading.next)

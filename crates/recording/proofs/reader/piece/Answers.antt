@@ -1,6 +1,7 @@
 use mathlib.Core.Path.{ap, _∙_}
 use Rattle.recording.specs.Pieces.{Answer}
 use Rattle.recording.specs.Statuses.{statusNumber}
+use Rattle.recording.proofs.Worked.{worked-listing}
 use Rattle.recording.proofs.Covers.{covers-all, none-at-end}
 use Rattle.recording.proofs.reader.piece.Needs as need
 
@@ -13,4 +14,5 @@ returns c =
       next = ap (λ (a : Answer). a .next) told;
       covers = covers-all;
       none = none-at-end;
+      worked = worked-listing;
     }

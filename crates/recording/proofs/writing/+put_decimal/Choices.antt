@@ -1,4 +1,4 @@
-use Rattle.recording.proofs.listing.+put_decimal.Given as given
+use Rattle.recording.proofs.writing.+put_decimal.Given as given
 
 abbrev pub μ-put-decimal : given.MeasureT-put-decimal
 μ-put-decimal l = l .number

@@ -2,7 +2,7 @@ use native.Mathlib.Omega.{arith}
 use borrow.Author.Needs.{needs}
 use Rattle.std.specs.Written.{decimal}
 use Rattle.recording.proofs.Fields.{length-field, three-digits}
-use Rattle.recording.proofs.listing.put_command.Needs as need
+use Rattle.recording.proofs.writing.put_command.Needs as need
 
 pub put-number-requires : need.put-number-requires
 put-number-requires c κs = omega (arith, three-digits (c .from .result) (omega arith))

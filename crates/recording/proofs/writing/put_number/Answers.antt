@@ -3,7 +3,7 @@ use Prim.Native.Nat.{_+_}
 use lib.ListN.{set}
 use Rattle.std.specs.Written.{decimal}
 use Rattle.recording.proofs.Fields.{field-length, after-text}
-use Rattle.recording.proofs.listing.put_number.Needs as need
+use Rattle.recording.proofs.writing.put_number.Needs as need
 
 pub returns : need.returns
 returns c =

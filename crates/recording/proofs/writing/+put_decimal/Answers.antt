@@ -8,7 +8,7 @@ use Rattle.std.proofs.shelf.Bits.{mod-below}
 use Rattle.std.proofs.shelf.Decimals.{decimal-digit, decimal-step}
 use Rattle.frame.specs.Written.{written}
 use Rattle.frame.proofs.Writes.{written-more}
-use Rattle.recording.proofs.listing.+put_decimal.Needs as need
+use Rattle.recording.proofs.writing.+put_decimal.Needs as need
 
 pub put-digit-requires : need.put-digit-requires
 put-digit-requires t c κs = (omega (arith, ap length (decimal-digit (c .args .number) (c .if-number-lt10 .taken))), c .if-number-lt10 .taken)

@@ -1,5 +1,5 @@
 use Rattle.recording.proofs.Fields.{field-length, text-then}
-use Rattle.recording.proofs.listing.put_field.Needs as need
+use Rattle.recording.proofs.writing.put_field.Needs as need
 
 pub returns : need.returns
 returns c = record {

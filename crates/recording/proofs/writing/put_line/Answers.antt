@@ -7,8 +7,8 @@ use Rattle.frame.specs.Written.{written}
 use Rattle.recording.specs.Listing.{space, lineFeed, field, commandText, lineOf}
 use Rattle.recording.specs.Statuses.{markName}
 use Rattle.recording.proofs.Fields.{length-field, five-digits, six-letters, write-fields, fields-length}
-use Rattle.recording.proofs.listing.put_line.Needs as need
-use Rattle.recording.proofs.listing.put_line.Needs.{After-put-number-at, After-put-number-at-2, After-put-field-at}
+use Rattle.recording.proofs.writing.put_line.Needs as need
+use Rattle.recording.proofs.writing.put_line.Needs.{After-put-number-at, After-put-number-at-2, After-put-field-at}
 
 pub put-number-at-requires : need.put-number-at-requires
 put-number-at-requires c κs = omega (arith, five-digits (c .args .start) (c .pre .start))

@@ -1,0 +1,73 @@
+-- The whole listing, line after line. Assumes nothing.
+use mathlib.Core.Path.{_≡_, refl, sym, ap, _∙_}
+use mathlib.Core.Bool.{cond}
+use mathlib.Core.List.{List, [], _∷_, _++_, append-nil, append-assoc}
+use Prim.Native.Nat.{ℕ, zero, suc, _+_, _-_, _≤_, _<_}
+use native.Mathlib.Omega.{arith}
+use lib.ListN.{length}
+use Rattle.std.specs.Joined.{joined}
+use Rattle.std.specs.Options.{isSome}
+use Rattle.std.specs.declared.option.Option.{Option}
+use Rattle.std.specs.declared.option.Option.the-variants.{Some, None}
+use Rattle.std.proofs.shelf.Tests.{lt-ltb, le-ltb, cond-true, cond-false}
+use Rattle.recording.specs.declared.status.Status.{Status}
+use Rattle.recording.specs.declared.status.Status.the-variants.{Refused, End, Piece}
+use Rattle.recording.specs.Listing.{namesLine, textOf, orNothing, refusedLine, lineFor, listingOf}
+use Rattle.recording.specs.Pieces.{limit, Answer, pieceAt, onward, onwardFrom, answersFrom, answersOf}
+
+pub too-long : (bytes : List ℕ) → limit < length bytes → listingOf bytes ≡ refusedLine
+unfolding listingOf
+too-long bytes long = cond-true _ _ _ (lt-ltb limit (length bytes) long)
+
+pub listed : (bytes : List ℕ) → length bytes ≤ limit → listingOf bytes ≡ namesLine ++ joined lineFor (answersOf bytes)
+unfolding listingOf
+listed bytes short = cond-false _ _ _ (le-ltb limit (length bytes) short)
+
+-- a status that goes on has a next place; one that does not has no line
+
+next-is : (s : Status) (k next : ℕ) → Some next ≡ onward s k → k ≡ next
+next-is (Refused r) k next is = let z : _≡_ {A = ℕ} 0 1 = cc in absurd (omega arith)
+next-is End k next is = let z : _≡_ {A = ℕ} 0 1 = cc in absurd (omega arith)
+next-is (Piece mark) k next is = cc
+
+no-text : (s : Status) (k start count : ℕ) (command : Option ℕ) → None ≡ onward s k → orNothing (textOf s start count command) ≡ []
+no-text (Refused r) k start count command is = refl
+no-text End k start count command is = refl
+no-text (Piece mark) k start count command is = let z : _≡_ {A = ℕ} 0 1 = cc in absurd (omega arith)
+
+module _ (bytes : List ℕ) (place : ℕ) where
+  -- the lines of the pieces to come
+  abbrev rest : ℕ → ℕ → List ℕ
+  rest n from = joined lineFor (answersFrom n bytes from)
+
+  abbrev here : Answer
+  here = pieceAt bytes place
+
+  rest-more : (n next : ℕ) → Some next ≡ onwardFrom here → rest (suc n) place ≡ lineFor here ++ rest n (here .next)
+  unfolding answersFrom
+  rest-more n next is = ap (λ o. joined lineFor (cond (isSome o) (here ∷ answersFrom n bytes (here .next)) [])) (sym is)
+
+  rest-none : (n : ℕ) → None ≡ onwardFrom here → rest n place ≡ []
+  unfolding answersFrom
+  rest-none zero is = refl
+  rest-none (suc n) is = ap (λ o. joined lineFor (cond (isSome o) (here ∷ answersFrom n bytes (here .next)) [])) (sym is)
+
+  -- one line more, and what is left is one line less
+  pub one-line : (m n next : ℕ) (before after whole : List ℕ) → m ≡ suc n → Some next ≡ onwardFrom here → after ≡ before ++ lineFor here → before ++ rest m place ≡ whole → after ++ rest n next ≡ whole
+  one-line m n next before after whole less is more so =
+      (λ i. more i ++ rest n (sym (next-is (here .status) (here .next) next is) i))
+      ∙ append-assoc before (lineFor here) (rest n (here .next))
+      ∙ ap (λ l. before ++ l) (sym (rest-more n next is) ∙ ap (λ k. rest k place) (sym less))
+      ∙ so
+
+  -- no piece: nothing was added, and nothing is left
+  pub no-line : (n : ℕ) (before after whole : List ℕ) → None ≡ onwardFrom here → after ≡ before ++ lineFor here → before ++ rest n place ≡ whole → after ≡ whole
+  no-line n before after whole is more so =
+      more
+      ∙ ap (λ l. before ++ l) (no-text (here .status) (here .next) (here .start) (length (here .raw)) (here .command) is ∙ sym (rest-none n is))
+      ∙ so
+
+pub all-lines : (bytes : List ℕ) (place n : ℕ) (text whole : List ℕ) → n ≡ 0 → text ++ joined lineFor (answersFrom n bytes place) ≡ whole → text ≡ whole
+unfolding answersFrom
+all-lines bytes place n text whole none so =
+    sym (append-nil text) ∙ ap (λ k. text ++ joined lineFor (answersFrom k bytes place)) (sym none) ∙ so
