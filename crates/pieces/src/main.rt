@@ -2,7 +2,10 @@
 ghost use Prim.Native.Nat.{_≤_};
 ghost use lib.ListN.{length};
 ghost use Rattle.std.specs.Vec.{made};
-use recording::listing::list;
+
+mod listing;
+
+use listing::list;
 use recording::reader::LIMIT;
 use std::error::AnyError;
 use std::io;

@@ -13,7 +13,8 @@ use Rattle.frame.specs.Written.{written}
 use Rattle.frame.proofs.Writes.{written-byte, written-more, length-written}
 use Rattle.recording.specs.declared.status.Mark.{Mark}
 use Rattle.recording.specs.declared.status.Mark.the-variants.{Open, Stray, Closed}
-use Rattle.recording.specs.Listing.{field}
+use Rattle.recording.specs.Listing.{space, lineFeed, field, commandText, lineOf}
+use Rattle.recording.specs.Pieces.{Answer}
 use Rattle.recording.specs.Statuses.{markName}
 
 pub length-field : (text : List ℕ) (after : ℕ) → length (field text after) ≡ length text + 1
@@ -76,3 +77,11 @@ fields-length a b c d p q s r ep eq es er = omega (arith, length-append a (b ++ 
 pub front-written : (old new text : List ℕ) (count : ℕ) → new ≡ written old 0 text → count ≡ length text → take (count - 0) new ≡ text
 unfolding written
 front-written old new text count e n = (λ i. take (n i - 0) (e i)) ∙ take-at text (drop (0 + length text) old) (length text - 0) (omega arith)
+
+-- no line is empty: it has a line feed at least
+pub line-some : (mark : Mark) (piece : Answer) → 0 < length (lineOf mark piece)
+unfolding lineOf
+line-some mark piece =
+    let first = field (decimal (piece .start)) space in
+    let rest = field (decimal (length (piece .raw))) space ++ (field (markName mark) space ++ field (commandText (piece .command)) lineFeed) in
+    omega (arith, length-append first rest, length-field (decimal (piece .start)) space)

@@ -1,5 +1,5 @@
 -- A reading, put together from its parts, is the answer that its place has. Assumes nothing.
-use mathlib.Core.Path.{_≡_, refl, sym, ap, _∙_}
+use mathlib.Core.Path.{_≡_, refl, sym, ap, subst, _∙_}
 use mathlib.Core.Bool.{Bool, true, false, cond}
 use mathlib.Core.List.{List, []}
 use Prim.Native.Nat.{ℕ, _+_, _≤_, min}
@@ -13,7 +13,7 @@ use Rattle.recording.specs.declared.status.Refusal.the-variants.{LongRecording
 use Rattle.recording.specs.declared.status.Mark.{Mark}
 use Rattle.recording.specs.declared.status.Status.{Status}
 use Rattle.recording.specs.declared.status.Status.the-variants.{End, Piece}
-use Rattle.recording.specs.Listing.{room, textOf, lineAt, into}
+use Rattle.recording.specs.Listing.{room, Small, textOf, lineAt, into}
 use Rattle.recording.specs.Pieces.{limit, startAt, runFrom, statusOf, commandIn, Answer, refusedAt, runAt, pieceAt}
 use Rattle.recording.proofs.Runs.{start-within, run-within}
 
@@ -38,11 +38,6 @@ module _ (bytes : List ℕ) (place start stop next : ℕ) (raw : List ℕ) (stat
   put-together e-start e-raw e-stop e-next e-status e-command short within =
       of-run e-start e-raw e-stop e-next e-status e-command ∙ ap (runAt bytes) e-start ∙ sym (not-refused bytes place short within)
 
--- a piece begins within the limit and is no longer than it
-pub record Small (a : Answer) : Type 0 where
-  pub start : a .start ≤ limit
-  pub raw : length (a .raw) ≤ limit
-
 small-at : (t u : Bool) (bytes : List ℕ) (place : ℕ) (mark : Mark) → ltb limit (length bytes) ≡ t → ltb (length bytes) place ≡ u → cond t (refusedAt LongRecording place) (cond u (refusedAt PlaceBeyond place) (runAt bytes (startAt bytes place))) .status ≡ Piece mark → Small (cond t (refusedAt LongRecording place) (cond u (refusedAt PlaceBeyond place) (runAt bytes (startAt bytes place))))
 small-at true u bytes place mark long beyond is = let z : _≡_ {A = ℕ} 0 1 = cc in absurd (omega arith)
 small-at false true bytes place mark long beyond is = let z : _≡_ {A = ℕ} 0 1 = cc in absurd (omega arith)
@@ -51,12 +46,15 @@ small-at false false bytes place mark long beyond is =
     let within = start-within bytes place (ltb-false (length bytes) place beyond) in
     record { start = omega arith; raw = omega (arith, run-within bytes (startAt bytes place) within) }
 
-pub piece-small : (bytes : List ℕ) (place : ℕ) (mark : Mark) → pieceAt bytes place .status ≡ Piece mark → Small (pieceAt bytes place)
+piece-small : (bytes : List ℕ) (place : ℕ) (mark : Mark) → pieceAt bytes place .status ≡ Piece mark → Small (pieceAt bytes place)
 unfolding pieceAt
 piece-small bytes place mark is = small-at (ltb limit (length bytes)) (ltb (length bytes) place) bytes place mark refl refl is
+
+pub reading-small : (a : Answer) (bytes : List ℕ) (place : ℕ) (mark : Mark) → a ≡ pieceAt bytes place → a .status ≡ Piece mark → Small a
+reading-small a bytes place mark told is = subst Small (sym told) (piece-small bytes place mark (sym (ap (λ (x : Answer). x .status) told) ∙ is))
 
 -- at the end there is nothing to write
 pub no-text : (bytes : List ℕ) (place : ℕ) (out : List ℕ) → pieceAt bytes place .status ≡ End → room ≤ length out → into out (lineAt bytes place) ≡ Ok []
 no-text bytes place out is long =
     cond-false _ _ _ (le-ltb (length out) room long)
-    ∙ ap (λ s. textOf s (pieceAt bytes place .start) (length (pieceAt bytes place .raw)) (pieceAt bytes place .command)) is
+    ∙ ap (λ s. textOf s (pieceAt bytes place)) is

@@ -1,11 +1,10 @@
 -- The listing of a recording: a line of names, and a line for each piece. Assumes nothing.
 use mathlib.Core.Bool.{cond}
 use mathlib.Core.List.{List, [], _∷_, _++_}
-use Prim.Native.Nat.{ℕ}
+use Prim.Native.Nat.{ℕ, _≤_}
 use lib.Chars.{codes}
 use lib.Dec.{ltb}
 use lib.ListN.{length}
-use Rattle.std.specs.Joined.{joined}
 use Rattle.std.specs.Written.{decimal}
 use Rattle.std.specs.declared.option.Option.{Option}
 use Rattle.std.specs.declared.option.Option.the-variants.{Some, None}
@@ -17,7 +16,7 @@ use Rattle.recording.specs.declared.status.Refusal.{Refusal}
 use Rattle.recording.specs.declared.status.Refusal.the-variants.{ShortBuffer}
 use Rattle.recording.specs.declared.status.Status.{Status}
 use Rattle.recording.specs.declared.status.Status.the-variants.{Refused, End, Piece}
-use Rattle.recording.specs.Pieces.{limit, Answer, pieceAt, answersOf}
+use Rattle.recording.specs.Pieces.{limit, Answer, pieceAt}
 use Rattle.recording.specs.Statuses.{markName}
 
 -- a line buffer has at least this many bytes
@@ -40,23 +39,28 @@ commandText None = codes "-"
 commandText (Some command) = decimal command
 
 -- the line of a piece: its place, its count of raw bytes, its mark, its command
-unfoldable pub lineOf : ℕ → ℕ → Mark → Option ℕ → List ℕ
-lineOf start count mark command =
-    field (decimal start) space ++ (field (decimal count) space ++ (field (markName mark) space ++ field (commandText command) lineFeed))
+unfoldable pub lineOf : Mark → Answer → List ℕ
+lineOf mark piece =
+    field (decimal (piece .start)) space ++ (field (decimal (length (piece .raw))) space ++ (field (markName mark) space ++ field (commandText (piece .command)) lineFeed))
+
+-- a piece begins within the limit and is no longer than it, so that its numbers have at most five digits
+pub record Small (piece : Answer) : Type 0 where
+  pub start : piece .start ≤ limit
+  pub raw : length (piece .raw) ≤ limit
 
 -- the line over all others
 abbrev pub namesLine : List ℕ
 namesLine = field (codes "place bytes verdict command") lineFeed
 
--- the text for a status: nothing at the end
-abbrev pub textOf : Status → ℕ → ℕ → Option ℕ → Result (List ℕ) Refusal
-textOf (Refused refusal) start count command = Err refusal
-textOf End start count command = Ok []
-textOf (Piece mark) start count command = Ok (lineOf start count mark command)
+-- the text for an answer: nothing at the end
+abbrev pub textOf : Status → Answer → Result (List ℕ) Refusal
+textOf (Refused refusal) answer = Err refusal
+textOf End answer = Ok []
+textOf (Piece mark) answer = Ok (lineOf mark answer)
 
 -- the text for a place
 abbrev pub lineAt : List ℕ → ℕ → Result (List ℕ) Refusal
-lineAt bytes place = textOf (pieceAt bytes place .status) (pieceAt bytes place .start) (length (pieceAt bytes place .raw)) (pieceAt bytes place .command)
+lineAt bytes place = textOf (pieceAt bytes place .status) (pieceAt bytes place)
 
 -- a buffer that is too short is refused before all else
 abbrev pub into : List ℕ → Result (List ℕ) Refusal → Result (List ℕ) Refusal
@@ -79,12 +83,4 @@ orNothing (Err refusal) = []
 
 -- the line for an answer: only a piece has one
 abbrev pub lineFor : Answer → List ℕ
-lineFor answer = orNothing (textOf (answer .status) (answer .start) (length (answer .raw)) (answer .command))
-
--- in place of a listing where the recording is too long
-abbrev pub refusedLine : List ℕ
-refusedLine = field (codes "refused 202") lineFeed
-
--- the whole listing: the names and a line for each piece, or why there is none
-unfoldable pub listingOf : List ℕ → List ℕ
-listingOf bytes = cond (ltb limit (length bytes)) refusedLine (namesLine ++ joined lineFor (answersOf bytes))
+lineFor answer = orNothing (textOf (answer .status) answer)

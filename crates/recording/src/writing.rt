@@ -5,28 +5,23 @@ ghost use Prim.Native.Nat.{_+_, _≤_, _<_};
 ghost use lib.ListN.{length};
 ghost use Rattle.std.specs.Written.{decimal};
 ghost use Rattle.frame.specs.Written.{written};
-ghost use Rattle.recording.specs.Listing.{field, commandText, lineOf};
+ghost use Rattle.recording.specs.Listing.{field, commandText, lineOf, Small};
+ghost use Rattle.recording.specs.Pieces.{answered};
+use crate::reader::Reading;
 use crate::status::Mark;
 
-// Writes the four fields of a line.
-pub(crate) fn put_line(
-    out: &mut [u8],
-    start: usize,
-    count: usize,
-    mark: Mark,
-    command: Option<u8>,
-) -> usize
+// Writes the four fields of the line of a piece.
+pub(crate) fn put_line(out: &mut [u8], piece: Reading<'_>, mark: Mark) -> usize
     requires long { ⌜ 32 ≤ length (now out) ⌝ }
-    requires start { ⌜ start ≤ 65536 ⌝ }
-    requires count { ⌜ count ≤ 65536 ⌝ }
-    ensures place { λ r. ⌜ r ≡ length (lineOf start count mark command) ⌝ }
-    ensures bytes { λ _. ⌜ now (out .exit) ≡ written (now (out .entry)) 0 (lineOf start count mark command) ⌝ }
+    requires small { ⌜ Small (answered piece) ⌝ }
+    ensures place { λ r. ⌜ r ≡ length (lineOf mark (answered (piece .entry))) ⌝ }
+    ensures bytes { λ _. ⌜ now (out .exit) ≡ written (now (out .entry)) 0 (lineOf mark (answered (piece .entry))) ⌝ }
     ensures within { λ r. ⌜ r ≤ 32 ⌝ }
 {
-    let at = put_number(out, 0, start, b' ');
-    let at = put_number(out, at, count, b' ');
+    let at = put_number(out, 0, piece.start, b' ');
+    let at = put_number(out, at, piece.raw.len(), b' ');
     let at = put_field(out, at, mark.name().as_bytes(), b' ');
-    put_command(out, at, command, b'\n')
+    put_command(out, at, piece.command, b'\n')
 }
 
 // Writes a command in decimal, or a hyphen, and what stands after it.

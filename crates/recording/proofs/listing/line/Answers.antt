@@ -1,16 +1,14 @@
-use mathlib.Core.Path.{sym, ap, subst, _∙_}
+use mathlib.Core.Path.{sym, ap, _∙_}
 use native.Mathlib.Omega.{arith}
 use Rattle.recording.specs.Pieces.{Answer}
 use Rattle.frame.proofs.Writes.{written-nothing}
 use Rattle.recording.specs.Listing.{counted, filled}
-use Rattle.recording.proofs.Readings.{Small, piece-small, no-text}
+use Rattle.recording.proofs.Readings.{reading-small, no-text}
 use Rattle.recording.proofs.listing.line.Needs as need
 
 pub put-line-requires : need.put-line-requires
 put-line-requires c κs =
-    let told = c .read-reading .ensures in
-    let small = subst Small (sym told) (piece-small (c .args .recording .now) (c .args .place) (c .in-Piece .mark) (sym (ap (λ (a : Answer). a .status) told) ∙ c .in-Piece .is)) in
-    record { long = c .if-out-lt-LINE-ROOM .left; start = small .start; count = small .raw }
+    record { long = c .if-out-lt-LINE-ROOM .left; small = reading-small _ (c .args .recording .now) (c .args .place) (c .in-Piece .mark) (c .read-reading .ensures) (c .in-Piece .is) }
 
 pub returns-in-End : need.returns-in-End
 returns-in-End c =

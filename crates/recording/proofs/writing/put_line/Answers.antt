@@ -11,16 +11,16 @@ use Rattle.recording.proofs.writing.put_line.Needs as need
 use Rattle.recording.proofs.writing.put_line.Needs.{After-put-number-at, After-put-number-at-2, After-put-field-at}
 
 pub put-number-at-requires : need.put-number-at-requires
-put-number-at-requires c κs = omega (arith, five-digits (c .args .start) (c .pre .start))
+put-number-at-requires c κs = omega (arith, five-digits (c .args .piece .start) (c .pre .small .start))
 
 -- the second field begins within the first 6 bytes, the third within 12, the fourth within 19
 
 second-at : (c : After-put-number-at) → c .put-number-at .result ≤ 6
-second-at c = omega (arith, c .put-number-at .ensures .place, length-field (decimal (c .args .start)) space, five-digits (c .args .start) (c .pre .start))
+second-at c = omega (arith, c .put-number-at .ensures .place, length-field (decimal (c .args .piece .start)) space, five-digits (c .args .piece .start) (c .pre .small .start))
 
 third-at : (c : After-put-number-at-2) → c .put-number-at-2 .result ≤ 12
 third-at c =
-    omega (arith, second-at (need.at·After-put-number-at-2 c .After-put-number-at), c .put-number-at-2 .ensures .place, length-field (decimal (c .args .count)) space, five-digits (c .args .count) (c .pre .count))
+    omega (arith, second-at (need.at·After-put-number-at-2 c .After-put-number-at), c .put-number-at-2 .ensures .place, length-field (decimal (length (c .args .piece .raw .now))) space, five-digits (length (c .args .piece .raw .now)) (c .pre .small .raw))
 
 fourth-at : (c : After-put-field-at) → c .put-field-at .result ≤ 19
 fourth-at c =
@@ -29,7 +29,7 @@ fourth-at c =
 
 pub put-number-at-requires-2 : need.put-number-at-requires-2
 put-number-at-requires-2 c κs =
-    omega (arith, second-at (need.at·put-number-at-requires-2 c .After-put-number-at), five-digits (c .args .count) (c .pre .count), c .put-number-at .kept .out, c .pre .long)
+    omega (arith, second-at (need.at·put-number-at-requires-2 c .After-put-number-at), five-digits (length (c .args .piece .raw .now)) (c .pre .small .raw), c .put-number-at .kept .out, c .pre .long)
 
 pub put-field-at-requires : need.put-field-at-requires
 put-field-at-requires c κs =
@@ -50,9 +50,9 @@ returns c =
     let name = c .as-bytes .ensures .value ∙ c .name .ensures in
     let named = ap (λ l. field l space) name in
     record {
-      place = fields-length (field (decimal (c .args .start)) space) (field (decimal (c .args .count)) space) (field (markName (c .args .mark)) space) (field (commandText (c .args .command)) lineFeed) _ _ _ _ (one .place) (two .place) (three .place ∙ ap (λ l. c .put-number-at-2 .result + length l) named) (four .place);
+      place = fields-length (field (decimal (c .args .piece .start)) space) (field (decimal (length (c .args .piece .raw .now))) space) (field (markName (c .args .mark)) space) (field (commandText (c .args .piece .command)) lineFeed) _ _ _ _ (one .place) (two .place) (three .place ∙ ap (λ l. c .put-number-at-2 .result + length l) named) (four .place);
       bytes =
           four .bytes
-          ∙ write-fields (c .args .out .now) _ _ _ (field (decimal (c .args .start)) space) (field (decimal (c .args .count)) space) (field (markName (c .args .mark)) space) (field (commandText (c .args .command)) lineFeed) _ _ _ (one .bytes) (one .place) (two .bytes) (two .place) (three .bytes ∙ ap (written (c .put-number-at-2 .last .out) (c .put-number-at-2 .result)) named) (three .place ∙ ap (λ l. c .put-number-at-2 .result + length l) named);
+          ∙ write-fields (c .args .out .now) _ _ _ (field (decimal (c .args .piece .start)) space) (field (decimal (length (c .args .piece .raw .now))) space) (field (markName (c .args .mark)) space) (field (commandText (c .args .piece .command)) lineFeed) _ _ _ (one .bytes) (one .place) (two .bytes) (two .place) (three .bytes ∙ ap (written (c .put-number-at-2 .last .out) (c .put-number-at-2 .result)) named) (three .place ∙ ap (λ l. c .put-number-at-2 .result + length l) named);
       within = omega (arith, four .within, fourth-at (need.at·returns c .After-put-field-at));
     }

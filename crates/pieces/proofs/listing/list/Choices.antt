@@ -4,9 +4,9 @@ use Prim.Native.Nat.{_-_}
 use lib.ListN.{length}
 use Rattle.std.specs.Joined.{joined}
 use Rattle.std.specs.Of.Vec.{vec-items}
 use Rattle.recording.specs.Listing.{namesLine, lineFor}
 use Rattle.recording.specs.Pieces.{answersFrom, answersOf}
-use Rattle.recording.proofs.listing.list.Given as given
+use Rattle.pieces.proofs.listing.list.Given as given
 
 abbrev pub Inv-loop-turn : given.InvT-loop-turn
 Inv-loop-turn l =

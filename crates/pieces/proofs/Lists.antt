@@ -7,13 +7,17 @@ use native.Mathlib.Omega.{arith}
 use lib.ListN.{length}
 use Rattle.std.specs.Joined.{joined}
 use Rattle.std.specs.Options.{isSome}
-use Rattle.std.specs.declared.option.Option.{Option}
 use Rattle.std.specs.declared.option.Option.the-variants.{Some, None}
 use Rattle.std.proofs.shelf.Tests.{lt-ltb, le-ltb, cond-true, cond-false}
+use Rattle.std.specs.declared.result.Result.{Result}
+use Rattle.std.specs.declared.result.Result.the-variants.{Ok}
+use Rattle.recording.specs.declared.status.Refusal.{Refusal}
 use Rattle.recording.specs.declared.status.Status.{Status}
+use Rattle.recording.proofs.Fields.{line-some}
 use Rattle.recording.specs.declared.status.Status.the-variants.{Refused, End, Piece}
-use Rattle.recording.specs.Listing.{namesLine, textOf, orNothing, refusedLine, lineFor, listingOf}
+use Rattle.recording.specs.Listing.{namesLine, lineOf, textOf, counted, orNothing, lineFor}
+use Rattle.pieces.specs.Listing.{refusedLine, listingOf}
 use Rattle.recording.specs.Pieces.{limit, Answer, pieceAt, onward, onwardFrom, answersFrom, answersOf}
 
 pub too-long : (bytes : List ℕ) → limit < length bytes → listingOf bytes ≡ refusedLine
 unfolding listingOf
@@ -30,10 +34,38 @@ next-is (Refused r) k next is = let z : _≡_ {A = ℕ} 0 1 = cc in absurd (omeg
 next-is End k next is = let z : _≡_ {A = ℕ} 0 1 = cc in absurd (omega arith)
 next-is (Piece mark) k next is = cc
 
-no-text : (s : Status) (k start count : ℕ) (command : Option ℕ) → None ≡ onward s k → orNothing (textOf s start count command) ≡ []
-no-text (Refused r) k start count command is = refl
-no-text End k start count command is = refl
-no-text (Piece mark) k start count command is = let z : _≡_ {A = ℕ} 0 1 = cc in absurd (omega arith)
+pub no-text : (s : Status) (k : ℕ) (a : Answer) → None ≡ onward s k → orNothing (textOf s a) ≡ []
+no-text (Refused r) k a is = refl
+no-text End k a is = refl
+no-text (Piece mark) k a is = let z : _≡_ {A = ℕ} 0 1 = cc in absurd (omega arith)
+
+-- what the count of a line call tells: nothing written, no piece; some bytes written, a piece and all of its line
+
+none-told : (s : Status) (a : Answer) (k : ℕ) → _≡_ {A = Result ℕ Refusal} (Ok 0) (counted (textOf s a)) → None ≡ onward s k
+none-told (Refused r) a k told = refl
+none-told End a k told = refl
+none-told (Piece mark) a k told = let none : 0 ≡ length (lineOf mark a) = cc in absurd (omega (arith, line-some mark a))
+
+more-told : (s : Status) (a : Answer) (k count : ℕ) → (count ≡ 0 → ⊥) → _≡_ {A = Result ℕ Refusal} (Ok count) (counted (textOf s a)) → Some k ≡ onward s k
+more-told (Refused r) a k count some told = let z : _≡_ {A = ℕ} 0 1 = cc in absurd (omega arith)
+more-told End a k count some told = let none : count ≡ 0 = cc in absurd (some none)
+more-told (Piece mark) a k count some told = refl
+
+pub text-told : (s : Status) (a : Answer) (count : ℕ) → _≡_ {A = Result ℕ Refusal} (Ok count) (counted (textOf s a)) → textOf s a ≡ Ok (orNothing (textOf s a))
+text-told (Refused r) a count told = let z : _≡_ {A = ℕ} 0 1 = cc in absurd (omega arith)
+text-told End a count told = refl
+text-told (Piece mark) a count told = refl
+
+pub count-told : (s : Status) (a : Answer) (count : ℕ) → _≡_ {A = Result ℕ Refusal} (Ok count) (counted (textOf s a)) → count ≡ length (orNothing (textOf s a))
+count-told (Refused r) a count told = let z : _≡_ {A = ℕ} 0 1 = cc in absurd (omega arith)
+count-told End a count told = cc
+count-told (Piece mark) a count told = cc
+
+pub ends-here : (a : Answer) (count : ℕ) → count ≡ 0 → _≡_ {A = Result ℕ Refusal} (Ok count) (counted (textOf (a .status) a)) → None ≡ onwardFrom a
+ends-here a count none told = none-told (a .status) a (a .next) (ap Ok (sym none) ∙ told)
+
+pub goes-on : (a : Answer) (count next : ℕ) → (count ≡ 0 → ⊥) → next ≡ a .next → _≡_ {A = Result ℕ Refusal} (Ok count) (counted (textOf (a .status) a)) → Some next ≡ onwardFrom a
+goes-on a count next some is told = ap Some is ∙ more-told (a .status) a (a .next) count some told
 
 module _ (bytes : List ℕ) (place : ℕ) where
   -- the lines of the pieces to come
@@ -64,10 +96,13 @@ module _ (bytes : List ℕ) (place : ℕ) where
   pub no-line : (n : ℕ) (before after whole : List ℕ) → None ≡ onwardFrom here → after ≡ before ++ lineFor here → before ++ rest n place ≡ whole → after ≡ whole
   no-line n before after whole is more so =
       more
-      ∙ ap (λ l. before ++ l) (no-text (here .status) (here .next) (here .start) (length (here .raw)) (here .command) is ∙ sym (rest-none n is))
+      ∙ ap (λ l. before ++ l) (no-text (here .status) (here .next) here is ∙ sym (rest-none n is))
       ∙ so
 
 pub all-lines : (bytes : List ℕ) (place n : ℕ) (text whole : List ℕ) → n ≡ 0 → text ++ joined lineFor (answersFrom n bytes place) ≡ whole → text ≡ whole
 unfolding answersFrom
 all-lines bytes place n text whole none so =
     sym (append-nil text) ∙ ap (λ k. text ++ joined lineFor (answersFrom k bytes place)) (sym none) ∙ so
+
+pub same-count : (m n : ℕ) → _≡_ {A = Result ℕ Refusal} (Ok m) (Ok n) → m ≡ n
+same-count m n e = cc

@@ -4,23 +4,24 @@ use Prim.Native.Nat.{suc, _+_, _-_}
 use native.Mathlib.Omega.{arith}
 use lib.ListN.{length}
 use Rattle.std.specs.Joined.{joined}
+use Rattle.std.proofs.shelf.Parts.{pushed}
 use Rattle.std.specs.Of.Vec.{vec-items}
-use Rattle.recording.specs.Listing.{namesLine, refusedLine, lineFor}
+use Rattle.recording.specs.Listing.{namesLine, lineFor}
+use Rattle.pieces.specs.Listing.{refusedLine}
 use Rattle.recording.specs.Pieces.{answersFrom, answersOf}
-use Rattle.recording.proofs.Lists.{too-long, listed, one-line, no-line, all-lines}
-use Rattle.recording.proofs.listing.list.Needs as need
+use Rattle.pieces.proofs.Lists.{too-long, listed, one-line, no-line, all-lines}
+use Rattle.pieces.proofs.listing.list.Needs as need
 
 pub returns-then-recording-gt-LIMIT : need.returns-then-recording-gt-LIMIT
 returns-then-recording-gt-LIMIT c =
-    c .in-Continue-append-words .ensures tt
-    ∙ ap (λ l. l ++ refusedLine) (c .new-text .ensures .items)
+    pushed refusedLine (c .new-text .ensures .items) (c .in-Continue-extend-from-slice .was tt) (c .extend-from-slice .ensures .items)
     ∙ sym (too-long (c .args .recording .now) (c .if-recording-gt-LIMIT .taken))
 
 pub loop-turn-holds : need.loop-turn-holds
 loop-turn-holds c =
     let bytes = c .args .recording .now in
     let n : length bytes - 0 ≡ length bytes = omega arith in
-    let names = c .in-Continue-append-words-2 .ensures tt ∙ ap (λ l. l ++ namesLine) (c .new-text .ensures .items) in
+    let names = c .in-Continue-append-names .ensures tt ∙ ap (λ l. l ++ namesLine) (c .new-text .ensures .items) in
     λ i. names i ++ joined lineFor (answersFrom (n i) bytes 0)
 
 pub returns-in-rest : need.returns-in-rest
