@@ -1,4 +1,4 @@
-// Frames from the vendor guide and from the bench, each verdict at its edge, and noise before a good frame.
+// The longest content, noise before a good frame, and the edges of the writer's buffer.
 use fcs::fcs16;
 use frame::FLAG;
 use frame::receiver::Receiver;
@@ -15,55 +15,6 @@ fn give(receiver: &mut Receiver, bytes: &[u8]) {
     for byte in bytes {
         receiver.put(*byte);
     }
-}
-
-// The verdict on a piece that stands between two flags.
-fn judge(piece: &[u8]) -> Option<Verdict> {
-    let mut receiver = Receiver::new();
-    receiver.put(FLAG);
-    give(&mut receiver, piece);
-    receiver.closing()
-}
-
-#[test]
-fn verdicts() -> Result<(), Fail> {
-    let table = [
-        (&[] as &[u8], Verdict::Empty),
-        (&[0x7d], Verdict::Escape),
-        (&[0x06, 0x7d, 0x00, 0x08, 0x5d, 0x9c], Verdict::Escape),
-        (&[0x7d, 0x7d, 0x5e, 0x08, 0x5d, 0x9c], Verdict::Escape),
-        (&[0x06], Verdict::Short),
-        (&[0x06, 0x00, 0x7d, 0x5e, 0x9c], Verdict::Short),
-        (&[0x06, 0x00, 0x08, 0x5d, 0x9d], Verdict::Check),
-        (&[0x06, 0x00, 0x08, 0x9c, 0x5d], Verdict::Check),
-        (&JOIN, Verdict::Good),
-        (
-            &[
-                0x03,
-                0x07,
-                0x02,
-                0,
-                0,
-                0,
-                0,
-                0x03,
-                0,
-                0x7d,
-                0x5d,
-                0x9a,
-                0xb2,
-            ],
-            Verdict::Good,
-        ),
-        (
-            &[0x04, 0x03, 0x01, 0, 0x03, 0, 0x7d, 0x5e, 0xa2, 0x91],
-            Verdict::Good,
-        ),
-    ];
-    for (piece, verdict) in table {
-        check_eq(judge(piece), Some(verdict))?;
-    }
-    Ok(())
 }
 
 // Writes a content of `count` bytes of `fill` as a frame and gives it to a receiver, all but the closing flag.

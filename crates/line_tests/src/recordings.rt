@@ -42,6 +42,22 @@ fn listings(rt: LibcRuntime) -> Result<(), Fail> {
         ),
         (b"~\x06\0\x08\x5d\x9d~\x06~", b"1 5 check -\n7 1 short -\n"),
         (b"~\xff\0\x08\x77\x8c~", b"1 5 good 255\n"),
+        // An escape byte alone, before a byte that needs none, and before another escape byte.
+        (
+            b"~\x7d~\x06\x7d\0\x08~\x7d\x7d\x5e~",
+            b"1 1 escape -\n3 4 escape -\n8 3 escape -\n",
+        ),
+        // Four bytes with one of them escaped, and check bytes in the wrong order.
+        (
+            b"~\x06\0\x7d\x5e\x9c~\x06\0\x08\x9c\x5d~",
+            b"1 5 short -\n7 5 check -\n",
+        ),
+        // The vendor guide's two framing examples.
+        (
+            b"~\x03\x07\x02\0\0\0\0\x03\0\x7d\x5d\x9a\xb2~",
+            b"1 13 good 3\n",
+        ),
+        (b"~\x04\x03\x01\0\x03\0\x7d\x5e\xa2\x91~", b"1 10 good 4\n"),
     ];
     for (recording, expected) in table {
         let text = listing(rt.alloc(), recording)?;

@@ -82,7 +82,7 @@ impl Mark {
 
 impl Status {
     // 0 at the end, 1 to 8 for a piece, 201 and up for a refusal.
-    pub fn number(self) -> u16
+    pub(crate) fn number(self) -> u16
         ensures { λ r. ⌜ r ≡ statusNumber self ⌝ }
     {
         match self {
