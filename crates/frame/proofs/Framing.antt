@@ -12,11 +12,12 @@ use Rattle.std.specs.declared.option.Option.the-variants.{Some}
 use Rattle.std.proofs.shelf.Bits.{div-add-mod'}
 use Rattle.std.proofs.shelf.Lists.{take-at, getD-append-add, same-from-push}
 use Rattle.std.proofs.shelf.Tests.{ne-eqb}
+use Rattle.std.proofs.shelf.Sums.{folded-push}
 use Rattle.fcs.specs.Sum.{fcs, checkBytes}
 use Rattle.frame.specs.declared.verdict.Verdict.the-variants.{Good}
 use Rattle.frame.specs.Escapes.{flag, escaped, unescaped}
 use Rattle.frame.specs.Frames.{checked, bodyOf, frameOf}
-use Rattle.frame.specs.Laws.{FlagFree, Frames-come-back, Equal-frames-have-equal-contents, Frame-laws}
+use Rattle.frame.specs.Laws.{FlagFree, Frames-come-back, Equal-frames-have-equal-messages, Frame-laws}
 use Rattle.frame.specs.Lines.{Line, waiting, since, hear, heard}
 use Rattle.frame.specs.Verdicts.{due, carried, verdictOf}
 use Rattle.frame.specs.Written.{fitsInto, written}
@@ -26,18 +27,18 @@ use Rattle.frame.proofs.Writes.{written-more}
 
 -- writing
 
-pub frame-parts : (content : List ℕ) → frameOf content ≡ flag ∷ ((escaped content ++ escaped (checkBytes content)) ++ flag ∷ [])
+pub frame-parts : (message : List ℕ) → frameOf message ≡ flag ∷ ((escaped message ++ escaped (checkBytes message)) ++ flag ∷ [])
 unfolding frameOf bodyOf
-frame-parts content = ap (λ l. flag ∷ (l ++ flag ∷ [])) (escaped-append content (checkBytes content))
+frame-parts message = ap (λ l. flag ∷ (l ++ flag ∷ [])) (escaped-append message (checkBytes message))
 
-pub frame-length : (content : List ℕ) → length (frameOf content) ≡ length (escaped content) + length (escaped (checkBytes content)) + 2
-frame-length content =
-    ap length (frame-parts content)
+pub frame-length : (message : List ℕ) → length (frameOf message) ≡ length (escaped message) + length (escaped (checkBytes message)) + 2
+frame-length message =
+    ap length (frame-parts message)
     ∙ simp length-append (omega arith)
 
-pub fits-frame : (content check out : List ℕ) (r : Bool) → check ≡ checkBytes content → r ≡ leb (length (escaped content) + length (escaped check) + 2) (length out) → r ≡ fitsInto (frameOf content) out
-fits-frame content check out r e told =
-    told ∙ ap (λ n. leb n (length out)) (ap (λ l. length (escaped content) + length (escaped l) + 2) e ∙ sym (frame-length content))
+pub fits-frame : (message check out : List ℕ) (r : Bool) → check ≡ checkBytes message → r ≡ leb (length (escaped message) + length (escaped check) + 2) (length out) → r ≡ fitsInto (frameOf message) out
+fits-frame message check out r e told =
+    told ∙ ap (λ n. leb n (length out)) (ap (λ l. length (escaped message) + length (escaped l) + 2) e ∙ sym (frame-length message))
 
 -- the four parts of a frame, each written right after the one before
 pub write-parts : (old o1 o2 o3 body tail : List ℕ) (p q : ℕ) → o1 ≡ written old 0 (flag ∷ []) → o2 ≡ written o1 1 body → p ≡ 1 + length body → o3 ≡ written o2 p tail → q ≡ p + length tail → written o3 q (flag ∷ []) ≡ written old 0 (flag ∷ ((body ++ tail) ++ flag ∷ []))
@@ -62,45 +63,60 @@ flag-opens : (before : Line) (raw : List ℕ) → heard before (flag ∷ raw) �
 flag-opens waiting raw = refl
 flag-opens (since old) raw = refl
 
-checked-length : (content : List ℕ) → length (checked content) ≡ length content + 2
-checked-length content = length-append content (checkBytes content)
+checked-length : (message : List ℕ) → length (checked message) ≡ length message + 2
+checked-length message = length-append message (checkBytes message)
 
-due-own : (content : List ℕ) → due (checked content) ≡ fcs content
-due-own content =
-    let n : length (checked content) - 2 ≡ length content = omega (arith, checked-length content) in
-    ap fcs (ap (λ k. take k (checked content)) n ∙ take-at content (checkBytes content) (length content) refl)
+due-own : (message : List ℕ) → due (checked message) ≡ fcs message
+due-own message =
+    let n : length (checked message) - 2 ≡ length message = omega (arith, checked-length message) in
+    ap fcs (ap (λ k. take k (checked message)) n ∙ take-at message (checkBytes message) (length message) refl)
 
-carried-own : (content : List ℕ) → carried (checked content) ≡ fcs content
-carried-own content =
-    let n : length (checked content) - 2 ≡ length content + 0 = omega (arith, checked-length content) in
-    let m : length (checked content) - 1 ≡ length content + 1 = omega (arith, checked-length content) in
-    let low = ap (λ k. getD (checked content) k 0) n ∙ getD-append-add content (checkBytes content) 0 0 in
-    let high = ap (λ k. getD (checked content) k 0) m ∙ getD-append-add content (checkBytes content) 1 0 in
-    (λ i. low i + high i * 2 ^ 8) ∙ omega (arith, div-add-mod' (fcs content) 256)
+carried-own : (message : List ℕ) → carried (checked message) ≡ fcs message
+carried-own message =
+    let n : length (checked message) - 2 ≡ length message + 0 = omega (arith, checked-length message) in
+    let m : length (checked message) - 1 ≡ length message + 1 = omega (arith, checked-length message) in
+    let low = ap (λ k. getD (checked message) k 0) n ∙ getD-append-add message (checkBytes message) 0 0 in
+    let high = ap (λ k. getD (checked message) k 0) m ∙ getD-append-add message (checkBytes message) 1 0 in
+    (λ i. low i + high i * 2 ^ 8) ∙ omega (arith, div-add-mod' (fcs message) 256)
 
-body-undone : (content : List ℕ) → unescaped (bodyOf content) ≡ Some (checked content)
+body-undone : (message : List ℕ) → unescaped (bodyOf message) ≡ Some (checked message)
 unfolding bodyOf
-body-undone content = undone (checked content)
+body-undone message = undone (checked message)
 
-free : (content : List ℕ) → FlagFree (bodyOf content)
+free : (message : List ℕ) → FlagFree (bodyOf message)
 unfolding bodyOf
-free content = flag-free (checked content)
+free message = flag-free (checked message)
 
-good-body : (content : List ℕ) → 3 ≤ length content → length content ≤ 123 → verdictOf (bodyOf content) ≡ Good
-good-body content low high =
-    let long = checked-length content in
-    good-content (bodyOf content) (checked content) (body-undone content) (omega arith) (omega arith) (due-own content ∙ sym (carried-own content))
+good-body : (message : List ℕ) → 3 ≤ length message → length message ≤ 123 → verdictOf (bodyOf message) ≡ Good
+good-body message low high =
+    let long = checked-length message in
+    good-content (bodyOf message) (checked message) (body-undone message) (omega arith) (omega arith) (due-own message ∙ sym (carried-own message))
 
-pub comes-back : Frames-come-back
-comes-back content low high before = record {
-  piece = flag-opens before (bodyOf content) ∙ flags-out (bodyOf content) [] (free content);
-  good = good-body content low high;
-  same = ap (λ u. valueOr u []) (body-undone content);
+opened : (message : List ℕ) (before : Line) → heard before (flag ∷ bodyOf message) ≡ since (bodyOf message)
+opened message before = flag-opens before (bodyOf message) ∙ flags-out (bodyOf message) [] (free message)
+
+frame-open : (message : List ℕ) → frameOf message ≡ (flag ∷ bodyOf message) ++ flag ∷ []
+unfolding frameOf
+frame-open message = refl
+
+closes-frame : (message : List ℕ) (before : Line) → heard before (frameOf message) ≡ since []
+closes-frame message before =
+    ap (heard before) (frame-open message)
+    ∙ folded-push hear before (flag ∷ bodyOf message) flag
+    ∙ ap (λ l. hear l flag) (opened message before)
+
+comes-back : Frames-come-back
+comes-back message low high before = record {
+  frame = frame-open message;
+  piece = opened message before;
+  good = good-body message low high;
+  same = ap (λ u. valueOr u []) (body-undone message);
+  closed = closes-frame message before;
 }
 
-pub same-contents : Equal-frames-have-equal-contents
+same-messages : Equal-frames-have-equal-messages
 unfolding frameOf
-same-contents c d e =
+same-messages c d e =
     let inner : bodyOf c ++ flag ∷ [] ≡ bodyOf d ++ flag ∷ [] = cc in
     let body = same-from-push (bodyOf c) (bodyOf d) flag flag inner .0 in
     let both : Some (checked c) ≡ Some (checked d) = sym (body-undone c) ∙ ap unescaped body ∙ body-undone d in
@@ -109,4 +125,4 @@ same-contents c d e =
     sym (take-at c (checkBytes c) (length c) refl) ∙ (λ i. take (long i) (same i)) ∙ take-at d (checkBytes d) (length d) refl
 
 pub frame-laws : Frame-laws
-frame-laws = record { undone = undone; flag-free = flag-free; come-back = comes-back; equal = same-contents }
+frame-laws = record { undone = undone; flag-free = flag-free; come-back = comes-back; equal = same-messages }

@@ -13,10 +13,9 @@ use Rattle.std.specs.declared.option.Option.the-variants.{Some, None}
 use Rattle.std.proofs.shelf.Tests.{ltb-false, le-ltb, eq-eqb, ne-eqb}
 use Rattle.frame.specs.declared.verdict.Verdict.{Verdict}
 use Rattle.frame.specs.declared.verdict.Verdict.the-variants.{Empty, Escape, Long, Short, Check, Good}
-use Rattle.frame.specs.Collected.{Kept, keptOf, isWhole, judged, judgedWhole}
+use Rattle.frame.specs.Collected.{Kept, keptOf, isWhole, judged}
 use Rattle.frame.specs.Escapes.{escapeByte, standsFor, before, unescaped}
-use Rattle.frame.specs.First.{firstOf, _⇒_}
-use Rattle.frame.specs.Verdicts.{longest, shortest, contentOf, due, carried, verdictOf}
+use Rattle.frame.specs.Verdicts.{longest, shortest, contentOf, due, carried, verdictBy, verdictOf}
 use Rattle.frame.proofs.Collects.{Leaves, collects}
 
 -- a content that came from some byte has some byte
@@ -46,23 +45,15 @@ pub record Decided (raw : List ℕ) (k : Kept) : Type 0 where
   pub content : verdictOf raw ≡ Good → k .content ≡ contentOf raw
 
 -- the verdict by whether there is no byte, and by the content
-abbrev verdictBy : Bool → Option (List ℕ) → Verdict
-verdictBy none u =
-    firstOf
-    ((none ⇒ Empty)
-    ∷ (not (isSome u) ⇒ Escape)
-    ∷ (ltb longest (length (valueOr u [])) ⇒ Long)
-    ∷ (ltb (length (valueOr u [])) shortest ⇒ Short)
-    ∷ (not (eqb (due (valueOr u [])) (carried (valueOr u []))) ⇒ Check)
-    ∷ [])
-    Good
+abbrev verdictFor : Bool → Option (List ℕ) → Verdict
+verdictFor none u = verdictBy none (not (isSome u)) (ltb longest (length (valueOr u []))) (valueOr u [])
 
-with-byte : (b : ℕ) (raw : List ℕ) (u : Option (List ℕ)) → unescaped (b ∷ raw) ≡ u → verdictOf (b ∷ raw) ≡ verdictBy false u
+with-byte : (b : ℕ) (raw : List ℕ) (u : Option (List ℕ)) → unescaped (b ∷ raw) ≡ u → verdictOf (b ∷ raw) ≡ verdictFor false u
 unfolding verdictOf
-with-byte b raw u e = let some : eqb (suc (length raw)) 0 ≡ false = ne-eqb (suc (length raw)) 0 (λ h. omega arith) in λ i. verdictBy (some i) (e i)
+with-byte b raw u e = let some : eqb (suc (length raw)) 0 ≡ false = ne-eqb (suc (length raw)) 0 (λ h. omega arith) in λ i. verdictFor (some i) (e i)
 
 not-whole : (k : Kept) → isWhole (k .escapes) ≡ false → judged k ≡ Escape
-not-whole k e = ap (λ t. cond t (judgedWhole (k .content) (k .over)) Escape) e
+not-whole k e = ap (λ t. cond t (verdictBy (eqb (length (k .content)) 0) false (k .over) (k .content)) Escape) e
 
 -- the verdict on a content of 1 to 125 bytes
 abbrev fitting : List ℕ → Verdict
@@ -84,16 +75,16 @@ front-some : (cs : List ℕ) → 0 < length cs → eqb (length (take longest cs)
 front-some cs some = ne-eqb (length (take longest cs)) 0 (λ h. omega (arith, length-take longest cs))
 
 -- a content that was cut off is long, and any other is judged as it is
-judges-at : (t : Bool) (cs : List ℕ) → ltb longest (length cs) ≡ t → 0 < length cs → judgedWhole (take longest cs) t ≡ verdictBy false (Some cs)
+judges-at : (t : Bool) (cs : List ℕ) → ltb longest (length cs) ≡ t → 0 < length cs → verdictBy (eqb (length (take longest cs)) 0) false t (take longest cs) ≡ verdictFor false (Some cs)
 judges-at true cs e some = ap (λ t. cond t Empty Long) (front-some cs some) ∙ sym (ap (λ t. cond t Long (fitting cs)) e)
 judges-at false cs e some =
     let all = take-all longest cs (ltb-false longest (length cs) e) in
     (λ i. cond (front-some cs some i) Empty (fitting (all i))) ∙ sym (ap (λ t. cond t Long (fitting cs)) e)
 
 -- a good content was not cut off
-good-whole : (t : Bool) (cs : List ℕ) → ltb longest (length cs) ≡ t → verdictBy false (Some cs) ≡ Good → take longest cs ≡ cs
+good-whole : (t : Bool) (cs : List ℕ) → ltb longest (length cs) ≡ t → verdictFor false (Some cs) ≡ Good → take longest cs ≡ cs
 good-whole true cs e good =
-    let long : verdictBy false (Some cs) ≡ Long = ap (λ t. cond t Long (fitting cs)) e in
+    let long : verdictFor false (Some cs) ≡ Long = ap (λ t. cond t Long (fitting cs)) e in
     let z : _≡_ {A = ℕ} 0 1 = cc in
     absurd (omega arith)
 good-whole false cs e good = take-all longest cs (ltb-false longest (length cs) e)

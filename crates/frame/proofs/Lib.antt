@@ -1,5 +1,6 @@
 pub mod Collects
 pub mod Escaping
+pub mod Following
 pub mod Framing
 pub mod Judges
 pub mod Pieces

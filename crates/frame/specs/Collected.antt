@@ -1,6 +1,6 @@
 -- What a collector keeps of the bytes since a flag, and what follows from that alone. Assumes nothing.
 use mathlib.Core.Path.{_≡_}
-use mathlib.Core.Bool.{Bool, true, false, cond, not}
+use mathlib.Core.Bool.{Bool, true, false, cond}
 use mathlib.Core.List.{List, [], _∷_, _++_}
 use Prim.Native.Nat.{ℕ}
 use lib.Dec.{eqb, ltb}
@@ -12,11 +12,10 @@ use Rattle.frame.specs.declared.collector.Collector.{Collector}
 use Rattle.frame.specs.declared.collector.Escapes.{Escapes}
 use Rattle.frame.specs.declared.collector.Escapes.the-variants.{Whole, Half, Bad}
 use Rattle.frame.specs.declared.verdict.Verdict.{Verdict}
-use Rattle.frame.specs.declared.verdict.Verdict.the-variants.{Empty, Escape, Long, Short, Check, Good}
+use Rattle.frame.specs.declared.verdict.Verdict.the-variants.{Escape}
 use Rattle.frame.specs.Contents.{bytesOf}
 use Rattle.frame.specs.Escapes.{escapeByte, standsFor}
-use Rattle.frame.specs.First.{firstOf, _⇒_}
-use Rattle.frame.specs.Verdicts.{longest, shortest, due, carried}
+use Rattle.frame.specs.Verdicts.{longest, verdictBy}
 
 -- the content so far, at most its first 125 bytes; whether there was more; how the escapes stand
 pub record Kept : Type 0 where
@@ -62,20 +61,9 @@ isWhole Whole = true
 isWhole Half = false
 isWhole Bad = false
 
--- the verdict on a content that was collected with no bad escape: of no byte, cut off at 125, or whole
-abbrev pub judgedWhole : List ℕ → Bool → Verdict
-judgedWhole content over =
-    firstOf
-    ((eqb (length content) 0 ⇒ Empty)
-    ∷ (over ⇒ Long)
-    ∷ (ltb (length content) shortest ⇒ Short)
-    ∷ (not (eqb (due content) (carried content)) ⇒ Check)
-    ∷ [])
-    Good
-
--- the verdict, from what is kept
+-- the verdict, from what is kept: no byte came where the escapes are right and there is no content
 abbrev pub judged : Kept → Verdict
-judged k = cond (isWhole (k .escapes)) (judgedWhole (k .content) (k .over)) Escape
+judged k = cond (isWhole (k .escapes)) (verdictBy (eqb (length (k .content)) 0) false (k .over) (k .content)) Escape
 
 -- the collector is one that these bytes since a flag leave
 abbrev pub Collected : List ℕ → Collector → Type 0

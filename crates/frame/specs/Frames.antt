@@ -4,14 +4,14 @@ use Prim.Native.Nat.{ℕ}
 use Rattle.fcs.specs.Sum.{checkBytes}
 use Rattle.frame.specs.Escapes.{flag, escaped}
 
--- the content with its check bytes, as a receiver collects it
+-- a message with its check bytes is a content, as a receiver collects it
 abbrev pub checked : List ℕ → List ℕ
-checked content = content ++ checkBytes content
+checked message = message ++ checkBytes message
 
 -- what stands between the two flags
 unfoldable pub bodyOf : List ℕ → List ℕ
-bodyOf content = escaped (checked content)
+bodyOf message = escaped (checked message)
 
--- a flag, the content with its check bytes, all escaped, and a flag
+-- a flag, the message with its check bytes, all escaped, and a flag
 unfoldable pub frameOf : List ℕ → List ℕ
-frameOf content = flag ∷ (bodyOf content ++ flag ∷ [])
+frameOf message = flag ∷ (bodyOf message ++ flag ∷ [])

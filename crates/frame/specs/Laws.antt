@@ -1,14 +1,16 @@
 -- What is promised of frames for every content, beside the bytes that the writer writes. Assumes nothing.
 use mathlib.Core.Path.{_≡_}
-use mathlib.Core.List.{List, _∷_}
+use mathlib.Core.List.{List, [], _∷_, _++_}
 use Prim.Native.Nat.{ℕ, _≤_}
 use lib.ListN.{length}
 use Rattle.std.specs.shelf.Lists.{All}
 use Rattle.std.specs.declared.option.Option.the-variants.{Some}
 use Rattle.frame.specs.declared.verdict.Verdict.the-variants.{Good}
+use Rattle.std.specs.Iters.{folded}
+use Rattle.frame.specs.Collected.{keptOf, judged}
 use Rattle.frame.specs.Escapes.{flag, escaped, unescaped}
 use Rattle.frame.specs.Frames.{checked, bodyOf, frameOf}
-use Rattle.frame.specs.Lines.{Line, since, heard}
+use Rattle.frame.specs.Lines.{Line, since, heard, hearOn, hearingOf}
 use Rattle.frame.specs.Verdicts.{contentOf, verdictOf}
 
 -- no byte of it is a flag
@@ -21,22 +23,42 @@ Unescaping-undoes-escaping = (content : List ℕ) → unescaped (escaped content
 abbrev pub Escaped-holds-no-flag : Type 0
 Escaped-holds-no-flag = (content : List ℕ) → FlagFree (escaped content)
 
--- whatever the line was before, a frame up to its closing flag is one good piece, and its content is what was framed
-pub record Comes-back (content : List ℕ) (before : Line) : Type 0 where
-  pub piece : heard before (flag ∷ bodyOf content) ≡ since (bodyOf content)
-  pub good : verdictOf (bodyOf content) ≡ Good
-  pub same : contentOf (bodyOf content) ≡ checked content
+-- whatever the line was before, a frame is one good piece, and its content is the message with its check bytes
+pub record Comes-back (message : List ℕ) (before : Line) : Type 0 where
+  pub frame : frameOf message ≡ (flag ∷ bodyOf message) ++ flag ∷ []
+  pub piece : heard before (flag ∷ bodyOf message) ≡ since (bodyOf message)
+  pub good : verdictOf (bodyOf message) ≡ Good
+  pub same : contentOf (bodyOf message) ≡ checked message
+  pub closed : heard before (frameOf message) ≡ since []
 
--- a content of 3 to 123 bytes has with its check bytes a length that is neither short nor long
+-- a message of 3 to 123 bytes has with its check bytes a length that is neither short nor long
 abbrev pub Frames-come-back : Type 0
-Frames-come-back = (content : List ℕ) → 3 ≤ length content → length content ≤ 123 → (before : Line) → Comes-back content before
+Frames-come-back = (message : List ℕ) → 3 ≤ length message → length message ≤ 123 → (before : Line) → Comes-back message before
 
-abbrev pub Equal-frames-have-equal-contents : Type 0
-Equal-frames-have-equal-contents = (c d : List ℕ) → frameOf c ≡ frameOf d → c ≡ d
+abbrev pub Equal-frames-have-equal-messages : Type 0
+Equal-frames-have-equal-messages = (m n : List ℕ) → frameOf m ≡ frameOf n → m ≡ n
 
 -- all of these
 pub record Frame-laws : Type 0 where
   pub undone : Unescaping-undoes-escaping
   pub flag-free : Escaped-holds-no-flag
   pub come-back : Frames-come-back
-  pub equal : Equal-frames-have-equal-contents
+  pub equal : Equal-frames-have-equal-messages
+
+-- what a collector keeps after the bytes of a piece decides its verdict, and its content where that is good
+abbrev pub Kept-decides-the-verdict : Type 0
+Kept-decides-the-verdict = (raw : List ℕ) → (judged (keptOf raw) ≡ verdictOf raw) × (verdictOf raw ≡ Good → keptOf raw .content ≡ contentOf raw)
+
+-- a receiver that is given bytes one after another keeps what there is to keep of the line that they make
+abbrev pub Receiver-follows-the-line : Type 0
+Receiver-follows-the-line = (line : Line) (bytes : List ℕ) → folded hearOn (hearingOf line) bytes ≡ hearingOf (heard line bytes)
+
+-- after a flag it makes no difference what was heard before it
+abbrev pub Nothing-is-carried-over-a-flag : Type 0
+Nothing-is-carried-over-a-flag = (line other : Line) (bytes : List ℕ) → heard line (flag ∷ bytes) ≡ heard other (flag ∷ bytes)
+
+-- all of these
+pub record Receiver-laws : Type 0 where
+  pub decides : Kept-decides-the-verdict
+  pub follows : Receiver-follows-the-line
+  pub flag : Nothing-is-carried-over-a-flag

@@ -1,6 +1,6 @@
 -- The line as a receiver hears it: which bytes are the piece that the next flag closes. Assumes nothing.
 use mathlib.Core.Path.{_≡_}
-use mathlib.Core.Bool.{cond}
+use mathlib.Core.Bool.{Bool, true, false, cond}
 use mathlib.Core.List.{List, [], _∷_, _++_}
 use Prim.Native.Nat.{ℕ}
 use lib.Dec.{eqb}
@@ -32,25 +32,35 @@ abbrev pub verdictAt : Line → Option Verdict
 verdictAt waiting = None
 verdictAt (since raw) = Some (verdictOf raw)
 
--- what a receiver keeps: nothing while it waits
-abbrev pub keeps : Receiver → Option Kept
-keeps r = cond (r .waiting) None (Some (keptBy (r .piece)))
+-- what a receiver keeps: whether it waits for a first flag, and what it keeps of the bytes since the last one
+pub record Hearing : Type 0 where
+  pub waits : Bool
+  pub kept : Kept
+
+abbrev pub hearing : Receiver → Hearing
+hearing r = record { waits = r .waiting; kept = keptBy (r .piece) }
+
+-- no flag came yet, and nothing is kept
+abbrev pub silent : Hearing
+silent = record { waits = true; kept = nothing }
+
+-- a piece is open, and this is kept of it
+abbrev pub collecting : Kept → Hearing
+collecting k = record { waits = false; kept = k }
+
+-- one byte more, by what is kept alone
+abbrev pub hearOn : Hearing → ℕ → Hearing
+hearOn h b = cond (eqb b flag) (collecting nothing) (cond (h .waits) h (collecting (collect (h .kept) b)))
+
+-- the verdict that a flag would bring, by what is kept alone
+abbrev pub closes : Hearing → Option Verdict
+closes h = cond (h .waits) None (Some (judged (h .kept)))
 
 -- what there is to keep of a line
-abbrev pub keptFrom : Line → Option Kept
-keptFrom waiting = None
-keptFrom (since raw) = Some (keptOf raw)
+abbrev pub hearingOf : Line → Hearing
+hearingOf waiting = silent
+hearingOf (since raw) = collecting (keptOf raw)
 
 -- the receiver is one that this line leaves
 abbrev pub Hears : Line → Receiver → Type 0
-Hears line r = keeps r ≡ keptFrom line
-
--- one byte more, by what is kept alone
-abbrev pub keepsOn : Option Kept → ℕ → Option Kept
-keepsOn None b = cond (eqb b flag) (Some nothing) None
-keepsOn (Some k) b = cond (eqb b flag) (Some nothing) (Some (collect k b))
-
--- the verdict that a flag would bring, by what is kept alone
-abbrev pub closes : Option Kept → Option Verdict
-closes None = None
-closes (Some k) = Some (judged k)
+Hears line r = hearing r ≡ hearingOf line

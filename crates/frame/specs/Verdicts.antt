@@ -1,5 +1,5 @@
 -- The verdict on a piece, from its raw bytes. Assumes nothing.
-use mathlib.Core.Bool.{not}
+use mathlib.Core.Bool.{Bool, not}
 use mathlib.Core.List.{List, [], _∷_}
 use Prim.Native.Nat.{ℕ, _+_, _-_, _*_, _^_}
 use lib.Dec.{eqb, ltb}
@@ -31,14 +31,18 @@ carried content = getD content (length content - 2) 0 + getD content (length con
 abbrev pub due : List ℕ → ℕ
 due content = fcs (take (length content - 2) content)
 
--- the first verdict that fits
-unfoldable pub verdictOf : List ℕ → Verdict
-verdictOf raw =
+-- the first verdict that fits: whether there is no byte, whether an escape is bad, whether the content is too long, and the content
+abbrev pub verdictBy : Bool → Bool → Bool → List ℕ → Verdict
+verdictBy none bad over content =
     firstOf
-    ((eqb (length raw) 0 ⇒ Empty)
-    ∷ (not (isSome (unescaped raw)) ⇒ Escape)
-    ∷ (ltb longest (length (contentOf raw)) ⇒ Long)
-    ∷ (ltb (length (contentOf raw)) shortest ⇒ Short)
-    ∷ (not (eqb (due (contentOf raw)) (carried (contentOf raw))) ⇒ Check)
+    ((none ⇒ Empty)
+    ∷ (bad ⇒ Escape)
+    ∷ (over ⇒ Long)
+    ∷ (ltb (length content) shortest ⇒ Short)
+    ∷ (not (eqb (due content) (carried content)) ⇒ Check)
     ∷ [])
     Good
+
+-- the verdict on a piece
+unfoldable pub verdictOf : List ℕ → Verdict
+verdictOf raw = verdictBy (eqb (length raw) 0) (not (isSome (unescaped raw))) (ltb longest (length (contentOf raw))) (contentOf raw)

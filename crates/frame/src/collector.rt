@@ -1,18 +1,20 @@
 // Collects a piece byte by byte, undoing its escapes, and judges it.
 ghost use mathlib.Core.Path.{_≡_};
+ghost use mathlib.Core.Bool.{false};
 ghost use mathlib.Core.List.{List, [], _∷_, _++_};
 ghost use Prim.Native.Nat.{ℕ, _≤_};
 ghost use lib.Dec.{eqb};
 ghost use lib.ListN.{length};
-ghost use Rattle.frame.specs.Collected.{keptBy, nothing, added, resolved, collect, judged, judgedWhole, Collected};
+ghost use Rattle.frame.specs.Collected.{keptBy, nothing, added, resolved, collect, judged, Collected};
 ghost use Rattle.frame.specs.Contents.{bytesOf};
 ghost use Rattle.frame.specs.Escapes.{standsFor};
-ghost use Rattle.frame.specs.Verdicts.{contentOf, due, carried, verdictOf};
+ghost use Rattle.frame.specs.Verdicts.{contentOf, due, carried, verdictBy, verdictOf};
 ghost use Rattle.frame.specs.declared.verdict.Verdict.the-variants.{Good};
 use crate::ESCAPE;
 use crate::ESCAPED_ESCAPE;
 use crate::ESCAPED_FLAG;
 use crate::FLAG;
+use crate::SHORTEST;
 use crate::content::Content;
 use crate::verdict::Verdict;
 use fcs::fcs16;
@@ -31,6 +33,7 @@ enum Escapes {
 #[derive(Clone, Copy)]
 pub struct Collector {
     content: Content,
+    // More content came than is kept.
     over: bool,
     escapes: Escapes,
 }
@@ -110,14 +113,14 @@ impl Collector {
 
     // The verdict where every escape is right.
     fn verdict_on_content(&self) -> Verdict
-        ensures { λ r. ⌜ r ≡ judgedWhole (bytesOf (now (self .entry) .content)) (now (self .entry) .over) ⌝ }
+        ensures { λ r. ⌜ r ≡ verdictBy (eqb (length (bytesOf (now (self .entry) .content))) 0) false (now (self .entry) .over) (bytesOf (now (self .entry) .content)) ⌝ }
     {
         let content = self.content();
         if content.is_empty() {
             Verdict::Empty
         } else if self.over {
             Verdict::Long
-        } else if content.len() < 5 {
+        } else if content.len() < SHORTEST {
             Verdict::Short
         } else if carries_its_check(content) {
             Verdict::Good

@@ -7,7 +7,7 @@ ghost use lib.Dec.{leb};
 ghost use lib.ListN.{length};
 ghost use Rattle.std.specs.declared.option.Option.the-variants.{Some, None};
 ghost use Rattle.fcs.specs.Sum.{checkBytes};
-ghost use Rattle.frame.specs.Escapes.{escapedByte, escaped};
+ghost use Rattle.frame.specs.Escapes.{escapeByte, escapedByte, escaped};
 ghost use Rattle.frame.specs.Frames.{frameOf};
 ghost use Rattle.frame.specs.Laws.{Frame-laws};
 ghost use Rattle.frame.specs.Written.{fitsInto, written};
@@ -17,38 +17,39 @@ use crate::ESCAPED_FLAG;
 use crate::FLAG;
 use fcs::fcs16;
 
-// Writes the frame of a content at the buffer's start and answers its length, or none, with nothing written, where it does not fit.
-pub fn write_frame(content: &[u8], out: &mut [u8]) -> Option<usize>
-    ensures count { λ r. ⌜ r ≡ cond (fitsInto (frameOf (now (content .entry))) (now (out .entry))) (Some (length (frameOf (now (content .entry))))) None ⌝ }
-    ensures bytes { λ _. ⌜ now (out .exit) ≡ cond (fitsInto (frameOf (now (content .entry))) (now (out .entry))) (written (now (out .entry)) 0 (frameOf (now (content .entry)))) (now (out .entry)) ⌝ }
+// Writes the frame of a message, which is a content without its check bytes, at the buffer's start and answers its length.
+// Where it does not fit, it answers none and writes nothing: so it measures first.
+pub fn write_frame(message: &[u8], out: &mut [u8]) -> Option<usize>
+    ensures count { λ r. ⌜ r ≡ cond (fitsInto (frameOf (now (message .entry))) (now (out .entry))) (Some (length (frameOf (now (message .entry))))) None ⌝ }
+    ensures bytes { λ _. ⌜ now (out .exit) ≡ cond (fitsInto (frameOf (now (message .entry))) (now (out .entry))) (written (now (out .entry)) 0 (frameOf (now (message .entry)))) (now (out .entry)) ⌝ }
     ensures laws { λ _. ⌜ Frame-laws ⌝ }
 {
-    let check = check_bytes(content);
-    if !fits(content, &check, out.len()) {
+    let check = check_bytes(message);
+    if !fits(message, &check, out.len()) {
         return None;
     }
     out[0] = FLAG;
-    let at = put_escaped(out, 1, content);
+    let at = put_escaped(out, 1, message);
     let at = put_escaped(out, at, &check);
     out[at] = FLAG;
     Some(at + 1)
 }
 
-// The two check bytes of a content, the low byte first.
-fn check_bytes(content: &[u8]) -> [u8; 2]
-    ensures { λ r. ⌜ r ≡ checkBytes (now (content .entry)) ⌝ }
+// The two check bytes of a message, the low byte first.
+fn check_bytes(message: &[u8]) -> [u8; 2]
+    ensures { λ r. ⌜ r ≡ checkBytes (now (message .entry)) ⌝ }
 {
-    fcs16(content).to_le_bytes()
+    fcs16(message).to_le_bytes()
 }
 
 // Whether a frame of these bytes and the two flags fit into a buffer of this length.
-fn fits(content: &[u8], check: &[u8], room: usize) -> bool
-    ensures { λ r. ⌜ r ≡ leb (length (escaped (now (content .entry))) + length (escaped (now (check .entry))) + 2) room ⌝ }
+fn fits(message: &[u8], check: &[u8], room: usize) -> bool
+    ensures { λ r. ⌜ r ≡ leb (length (escaped (now (message .entry))) + length (escaped (now (check .entry))) + 2) room ⌝ }
 {
     let Some(left) = room.checked_sub(2) else {
         return false;
     };
-    let Some(left) = left_after(left, content) else {
+    let Some(left) = left_after(left, message) else {
         return false;
     };
     left_after(left, check).is_some()
@@ -112,7 +113,7 @@ fn put_byte(out: &mut [u8], at: usize, byte: u8) -> usize
 fn put_pair(out: &mut [u8], at: usize, second: u8) -> usize
     requires { ⌜ at + 2 ≤ length (now out) ⌝ }
     ensures place { λ r. ⌜ r ≡ at + 2 ⌝ }
-    ensures bytes { λ _. ⌜ now (out .exit) ≡ written (now (out .entry)) at (0x7D ∷ second ∷ []) ⌝ }
+    ensures bytes { λ _. ⌜ now (out .exit) ≡ written (now (out .entry)) at (escapeByte ∷ second ∷ []) ⌝ }
 {
     out[at] = ESCAPE;
     out[at + 1] = second;

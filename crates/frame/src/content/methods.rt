@@ -6,19 +6,23 @@ ghost use Prim.Native.Nat.{_<_, _≤_};
 ghost use lib.Dec.{ltb};
 ghost use lib.ListN.{length, set, take};
 ghost use Rattle.frame.specs.Contents.{bytesOf};
+ghost use Rattle.frame.specs.Verdicts.{longest};
 use super::Content;
 use super::Row;
+use crate::LONGEST;
 
 impl Row {
+    // Sets one byte. It also tells that the row is whole, which is not known of an array inside two structs.
     fn put(&mut self, at: usize, byte: u8)
-        requires { ⌜ at < 125 ⌝ }
-        ensures { λ _. ⌜ now (self .exit) .bytes ≡ set (now (self .entry) .bytes) at byte ⌝ ∗ ⌜ length (now (self .entry) .bytes) ≡ 125 ⌝ }
+        requires { ⌜ at < longest ⌝ }
+        ensures { λ _. ⌜ now (self .exit) .bytes ≡ set (now (self .entry) .bytes) at byte ⌝ ∗ ⌜ length (now (self .entry) .bytes) ≡ longest ⌝ }
     {
         self.bytes[at] = byte;
     }
 
+    // The first `count` bytes.
     fn front(&self, count: usize) -> &[u8]
-        requires { ⌜ count ≤ 125 ⌝ }
+        requires { ⌜ count ≤ longest ⌝ }
         ensures { λ r. ⌜ now r ≡ take count (now (self .entry) .bytes) ⌝ ∗ ⌜ length (now r) ≡ count ⌝ }
     {
         &self.bytes[0..count]
@@ -32,16 +36,18 @@ impl Content {
     {
         Content {
             count: 0,
-            row: Row { bytes: [0; 125] },
+            row: Row {
+                bytes: [0; LONGEST],
+            },
         }
     }
 
     // Adds one byte, or answers false and leaves all as it was where 125 are held already.
     pub(crate) fn push(&mut self, byte: u8) -> bool
-        ensures room { λ r. ⌜ r ≡ ltb (length (bytesOf (now (self .entry)))) 125 ⌝ }
+        ensures room { λ r. ⌜ r ≡ ltb (length (bytesOf (now (self .entry)))) longest ⌝ }
         ensures bytes { λ r. ⌜ bytesOf (now (self .exit)) ≡ cond r (bytesOf (now (self .entry)) ++ byte ∷ []) (bytesOf (now (self .entry))) ⌝ }
     {
-        if self.bytes().len() == 125 {
+        if self.bytes().len() == LONGEST {
             return false;
         }
         self.row.put(self.count, byte);
