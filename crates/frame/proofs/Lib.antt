@@ -1,3 +1,4 @@
+-- The lemmas that several proofs share of `frame`.
 pub mod Collects
 pub mod Escaping
 pub mod Following

@@ -1,3 +1,4 @@
+-- The definitions that the contracts cite of `frame`.
 pub mod Collected
 pub mod Contents
 pub mod Escapes

@@ -5,22 +5,26 @@ ghost use Rattle.std.specs.Of.Vec.{vec-items};
 ghost use Rattle.std.specs.Vec.{made};
 ghost use Rattle.recording.specs.Listing.{namesLine, lineFor};
 ghost use Rattle.recording.specs.Pieces.{pieceAt, onwardFrom};
-ghost use Rattle.pieces.specs.Listing.{listingOf};
+ghost use Rattle.pieces.specs.Cases.{Worked-listing};
+ghost use Rattle.pieces.specs.Listing.{refusedLine, listingOf};
 use recording::listing::LINE_ROOM;
 use recording::listing::line;
 use recording::listing::names;
-use recording::reader::LIMIT;
 use recording::reader::piece;
+use recording::reader::read;
+use recording::status::Refusal;
+use recording::status::Status;
 use std::alloc::AllocError;
 use std::alloc::Global;
 
-// The names line and a line for each piece; one line that says so where the recording is too long.
+// The names line and a line for each piece; or one line that says why the recording is refused.
 pub fn list(heap: Global, recording: &[u8]) -> Result<Vec<u8>, AllocError>
-    ensures { λ r. ⌜ made r (λ v. vec-items v ≡ listingOf (now (recording .entry))) ⌝ }
+    ensures text { λ r. ⌜ made r (λ v. vec-items v ≡ listingOf (now (recording .entry))) ⌝ }
+    ensures worked { λ _. ⌜ Worked-listing ⌝ }
 {
     let mut text = Vec::new(heap);
-    if recording.len() > LIMIT {
-        text.extend_from_slice(b"refused 202\n")?;
+    if let Status::Refused(refusal) = read(recording, 0).status {
+        append_refusal(&mut text, heap, refusal)?;
         return Ok(text);
     }
     append_names(&mut text)?;
@@ -32,6 +36,15 @@ pub fn list(heap: Global, recording: &[u8]) -> Result<Vec<u8>, AllocError>
         place = next;
     }
     Ok(text)
+}
+
+// Appends the line of a recording that is refused.
+fn append_refusal(text: &mut Vec<u8>, heap: Global, refusal: Refusal) -> Result<(), AllocError>
+    ensures { λ r. ⌜ made r (λ _. vec-items (now (text .exit)) ≡ vec-items (now (text .entry)) ++ refusedLine refusal) ⌝ }
+{
+    let number = refusal.number();
+    let line = format!(heap, "refused {number}\n")?;
+    text.extend_from_slice(line.as_bytes())
 }
 
 // Appends the names line.

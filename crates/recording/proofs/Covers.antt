@@ -18,13 +18,13 @@ use Rattle.std.proofs.shelf.Tests.{eqb-true, eqb-false, eq-eqb, ne-eqb, ltb-fal
 use Rattle.frame.specs.Escapes.{flag}
 use Rattle.frame.specs.Laws.{FlagFree}
 use Rattle.frame.specs.Verdicts.{verdictOf}
-use Rattle.recording.specs.declared.status.Mark.{Mark}
-use Rattle.recording.specs.declared.status.Mark.the-variants.{Open, Stray, Closed}
+use Rattle.recording.specs.declared.status.Label.{Label}
+use Rattle.recording.specs.declared.status.Label.the-variants.{Open, Stray, Closed}
 use Rattle.recording.specs.declared.status.Refusal.the-variants.{LongRecording, PlaceBeyond}
 use Rattle.recording.specs.declared.status.Status.{Status}
 use Rattle.recording.specs.declared.status.Status.the-variants.{End, Piece}
 use Rattle.recording.specs.Laws.{Calls, ended, called, closingFlag, spelled, passedOver, Pieces-cover-the-recording, None-only-at-the-end}
-use Rattle.recording.specs.Pieces.{limit, startAt, plain, runFrom, Answer, refusedAt, runAt, pieceAt, onward, answersFrom}
+use Rattle.recording.specs.Pieces.{limit, startAt, plain, runFrom, Located, refusedAt, runAt, pieceAt, onward, piecesFrom}
 use Rattle.recording.proofs.Readings.{not-refused}
 use Rattle.recording.proofs.Runs.{reach, length-run, run-within, start-stays, start-within}
 
@@ -72,19 +72,19 @@ module _ (bytes : List ℕ) (s : ℕ) where
   free-run = run-free (drop s bytes)
 
 -- one call: the end, or a piece and a place beyond it
-data Onward (bytes : List ℕ) (s : ℕ) (a : Answer) : Type 0 where
+data Onward (bytes : List ℕ) (s : ℕ) (a : Located) : Type 0 where
   at-end : a .status ≡ End → s ≡ length bytes → Onward bytes s a
-  goes-on : (mark : Mark) → a .status ≡ Piece mark → spelled a ++ drop (a .next) bytes ≡ drop s bytes → s < a .next → a .next ≤ length bytes → FlagFree (a .raw) → Onward bytes s a
+  goes-on : (label : Label) → a .status ≡ Piece label → spelled a ++ drop (a .next) bytes ≡ drop s bytes → s < a .next → a .next ≤ length bytes → FlagFree (a .raw) → Onward bytes s a
 
 module _ (bytes : List ℕ) (s : ℕ) (within : s ≤ length bytes) (command : Option ℕ) where
-  abbrev judgedBy : Status → Answer
+  abbrev judgedBy : Status → Located
   judgedBy status = record { status = status; start = s; raw = runFrom bytes s; next = min (stop bytes s + 1) (length bytes); command = command }
 
-  closed-run : (mark : Mark) → closingFlag (Piece mark) ≡ flag ∷ [] → stop bytes s < length bytes → Onward bytes s (judgedBy (Piece mark))
-  closed-run mark closes more =
+  closed-run : (label : Label) → closingFlag (Piece label) ≡ flag ∷ [] → stop bytes s < length bytes → Onward bytes s (judgedBy (Piece label))
+  closed-run label closes more =
       let next : min (stop bytes s + 1) (length bytes) ≡ stop bytes s + 1 = omega arith in
       let run = runFrom bytes s in
-      goes-on mark refl
+      goes-on label refl
       (ap (λ l. (run ++ l) ++ drop (min (stop bytes s + 1) (length bytes)) bytes) closes
       ∙ append-assoc run (flag ∷ []) (drop (min (stop bytes s + 1) (length bytes)) bytes)
       ∙ ap (λ l. run ++ l) (ap (λ n. flag ∷ drop n bytes) next ∙ sym (flag-after bytes s more))
@@ -114,11 +114,11 @@ module _ (bytes : List ℕ) (short : length bytes ≤ limit) where
       subst (Onward bytes s) (sym (not-refused bytes place short within))
       (onward-at bytes s (start-within bytes place within) (runAt bytes s .command) (eqb s (length bytes)) (eqb (stop bytes s) (length bytes)) (eqb s 0) refl refl)
 
-  -- what the answers from a place cover
-  record Going (place : ℕ) (answers : List Answer) : Type 0 where
-    calls : Calls bytes place answers
-    covers : joined spelled answers ≡ drop (startAt bytes place) bytes
-    flag-free : All (λ (answer : Answer). FlagFree (answer .raw)) answers
+  -- what the pieces from a place cover
+  record Going (place : ℕ) (pieces : List Located) : Type 0 where
+    calls : Calls bytes place pieces
+    covers : joined spelled pieces ≡ drop (startAt bytes place) bytes
+    flag-free : All (λ (piece : Located). FlagFree (piece .raw)) pieces
 
   begins : (place : ℕ) → place ≤ startAt bytes place
   begins place = grind (arith, tells)
@@ -134,8 +134,8 @@ module _ (bytes : List ℕ) (short : length bytes ≤ limit) where
   }
 
   -- one call with the piece that it gave, and the calls after it
-  one-more : (place : ℕ) (mark : Mark) (after : List Answer) → pieceAt bytes place .status ≡ Piece mark → spelled (pieceAt bytes place) ++ drop (pieceAt bytes place .next) bytes ≡ drop (startAt bytes place) bytes → startAt bytes place < pieceAt bytes place .next → FlagFree (pieceAt bytes place .raw) → Going (pieceAt bytes place .next) after → Going place (pieceAt bytes place ∷ after)
-  one-more place mark after is splits more free rest =
+  one-more : (place : ℕ) (label : Label) (after : List Located) → pieceAt bytes place .status ≡ Piece label → spelled (pieceAt bytes place) ++ drop (pieceAt bytes place .next) bytes ≡ drop (startAt bytes place) bytes → startAt bytes place < pieceAt bytes place .next → FlagFree (pieceAt bytes place .raw) → Going (pieceAt bytes place .next) after → Going place (pieceAt bytes place ∷ after)
+  one-more place label after is splits more free rest =
       let next = pieceAt bytes place .next in
       record {
         calls = called is (rest .calls);
@@ -143,27 +143,27 @@ module _ (bytes : List ℕ) (short : length bytes ≤ limit) where
         flag-free = (free, rest .flag-free);
       }
 
-  answers-end : (n : ℕ) (place : ℕ) → pieceAt bytes place .status ≡ End → [] ≡ answersFrom n bytes place
-  unfolding answersFrom
-  answers-end zero place is = refl
-  answers-end (suc n) place is = sym (ap (λ s. cond (isSome (onward s (pieceAt bytes place .next))) (pieceAt bytes place ∷ answersFrom n bytes (pieceAt bytes place .next)) []) is)
+  pieces-end : (n : ℕ) (place : ℕ) → pieceAt bytes place .status ≡ End → [] ≡ piecesFrom n bytes place
+  unfolding piecesFrom
+  pieces-end zero place is = refl
+  pieces-end (suc n) place is = sym (ap (λ s. cond (isSome (onward s (pieceAt bytes place .next))) (pieceAt bytes place ∷ piecesFrom n bytes (pieceAt bytes place .next)) []) is)
 
-  answers-more : (n : ℕ) (place : ℕ) (mark : Mark) → pieceAt bytes place .status ≡ Piece mark → pieceAt bytes place ∷ answersFrom n bytes (pieceAt bytes place .next) ≡ answersFrom (suc n) bytes place
-  unfolding answersFrom
-  answers-more n place mark is = sym (ap (λ s. cond (isSome (onward s (pieceAt bytes place .next))) (pieceAt bytes place ∷ answersFrom n bytes (pieceAt bytes place .next)) []) is)
+  pieces-more : (n : ℕ) (place : ℕ) (label : Label) → pieceAt bytes place .status ≡ Piece label → pieceAt bytes place ∷ piecesFrom n bytes (pieceAt bytes place .next) ≡ piecesFrom (suc n) bytes place
+  unfolding piecesFrom
+  pieces-more n place label is = sym (ap (λ s. cond (isSome (onward s (pieceAt bytes place .next))) (pieceAt bytes place ∷ piecesFrom n bytes (pieceAt bytes place .next)) []) is)
 
-  from-here : (n : ℕ) (place : ℕ) → Onward bytes (startAt bytes place) (pieceAt bytes place) → ((next : ℕ) → startAt bytes place < next → next ≤ length bytes → Going next (answersFrom n bytes next)) → Going place (answersFrom (suc n) bytes place)
-  from-here n place (at-end is whole) rest = subst (Going place) (answers-end (suc n) place is) (none-left place is whole)
-  from-here n place (goes-on mark is splits more inside free) rest =
-      subst (Going place) (answers-more n place mark is)
-      (one-more place mark (answersFrom n bytes (pieceAt bytes place .next)) is splits more free (rest (pieceAt bytes place .next) more inside))
+  from-here : (n : ℕ) (place : ℕ) → Onward bytes (startAt bytes place) (pieceAt bytes place) → ((next : ℕ) → startAt bytes place < next → next ≤ length bytes → Going next (piecesFrom n bytes next)) → Going place (piecesFrom (suc n) bytes place)
+  from-here n place (at-end is whole) rest = subst (Going place) (pieces-end (suc n) place is) (none-left place is whole)
+  from-here n place (goes-on label is splits more inside free) rest =
+      subst (Going place) (pieces-more n place label is)
+      (one-more place label (piecesFrom n bytes (pieceAt bytes place .next)) is splits more free (rest (pieceAt bytes place .next) more inside))
 
-  at-last : (place : ℕ) → length bytes ≤ place → Onward bytes (startAt bytes place) (pieceAt bytes place) → Going place (answersFrom 0 bytes place)
-  at-last place past (at-end is whole) = subst (Going place) (answers-end 0 place is) (none-left place is whole)
-  at-last place past (goes-on mark is splits more inside free) = absurd (omega (arith, begins place))
+  at-last : (place : ℕ) → length bytes ≤ place → Onward bytes (startAt bytes place) (pieceAt bytes place) → Going place (piecesFrom 0 bytes place)
+  at-last place past (at-end is whole) = subst (Going place) (pieces-end 0 place is) (none-left place is whole)
+  at-last place past (goes-on label is splits more inside free) = absurd (omega (arith, begins place))
 
   -- each call goes on beyond its place, so that as many calls as there are bytes suffice
-  go : (n : ℕ) (place : ℕ) → length bytes ≤ place + n → place ≤ length bytes → Going place (answersFrom n bytes place)
+  go : (n : ℕ) (place : ℕ) → length bytes ≤ place + n → place ≤ length bytes → Going place (piecesFrom n bytes place)
   go zero place enough within = at-last place (omega arith) (next-call place within)
   go (suc n) place enough within = from-here n place (next-call place within) (λ next more inside. go n next (omega (arith, begins place)) inside)
 
@@ -186,9 +186,9 @@ covers-all bytes place short within =
       flag-free = all .flag-free;
     }
 
-ending : (bytes : List ℕ) (s : ℕ) (a : Answer) → Onward bytes s a → a .status ≡ End → drop s bytes ≡ []
+ending : (bytes : List ℕ) (s : ℕ) (a : Located) → Onward bytes s a → a .status ≡ End → drop s bytes ≡ []
 ending bytes s a (at-end is whole) end = drop-all s bytes (omega arith)
-ending bytes s a (goes-on mark is splits more inside free) end = let z : _≡_ {A = ℕ} 0 1 = cc in absurd (omega arith)
+ending bytes s a (goes-on label is splits more inside free) end = let z : _≡_ {A = ℕ} 0 1 = cc in absurd (omega arith)
 
 none-at : (t u : Bool) (bytes : List ℕ) (place : ℕ) → ltb limit (length bytes) ≡ t → ltb (length bytes) place ≡ u → cond t (refusedAt LongRecording place) (cond u (refusedAt PlaceBeyond place) (runAt bytes (startAt bytes place))) .status ≡ End → pieceAt bytes place .status ≡ End → drop (startAt bytes place) bytes ≡ []
 none-at true u bytes place long beyond is end = let z : _≡_ {A = ℕ} 0 1 = cc in absurd (omega arith)

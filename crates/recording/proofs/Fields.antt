@@ -11,17 +11,17 @@ use Rattle.std.proofs.shelf.Decimals.{length-decimal-le}
 use Rattle.frame.specs.declared.verdict.Verdict.the-variants.{Empty, Escape, Long, Short, Check, Good}
 use Rattle.frame.specs.Written.{written}
 use Rattle.frame.proofs.Writes.{written-byte, written-more, length-written}
-use Rattle.recording.specs.declared.status.Mark.{Mark}
-use Rattle.recording.specs.declared.status.Mark.the-variants.{Open, Stray, Closed}
+use Rattle.recording.specs.declared.status.Label.{Label}
+use Rattle.recording.specs.declared.status.Label.the-variants.{Open, Stray, Closed}
 use Rattle.recording.specs.Listing.{space, lineFeed, field, commandText, lineOf}
-use Rattle.recording.specs.Pieces.{Answer}
-use Rattle.recording.specs.Statuses.{markName}
+use Rattle.recording.specs.Pieces.{Located}
+use Rattle.recording.specs.Statuses.{labelName}
 
 pub length-field : (text : List ℕ) (after : ℕ) → length (field text after) ≡ length text + 1
 length-field text after = length-append text (after ∷ [])
 
-pub field-length : (at : ℕ) (text : List ℕ) (after : ℕ) → at + length text + 1 ≡ at + length (field text after)
-field-length at text after = simp length-append (omega arith)
+pub past-field : (at : ℕ) (text : List ℕ) (after : ℕ) → at + length text + 1 ≡ at + length (field text after)
+past-field at text after = simp length-append (omega arith)
 
 -- what stands after a text, written right behind it
 pub after-text : (old : List ℕ) (at : ℕ) (text : List ℕ) (after : ℕ) → at + length text < length old → set (written old at text) (at + length text) after ≡ written old at (field text after)
@@ -41,7 +41,7 @@ text-then old at text part after same fits =
     ap (λ l. set l (at + length text) after) (ap (putMid at (at + length text - at) old) same ∙ copied old at text)
     ∙ after-text old at text after fits
 
--- no number of a listing has more than five digits, no mark more than six letters
+-- no number of a listing has more than five digits, no label more than six letters
 
 pub five-digits : (n : ℕ) → n ≤ 65536 → length (decimal n) ≤ 5
 five-digits n small = length-decimal-le 5 n (omega arith) (omega arith) (omega arith)
@@ -49,7 +49,7 @@ five-digits n small = length-decimal-le 5 n (omega arith) (omega arith) (omega a
 pub three-digits : (n : ℕ) → n < 256 → length (decimal n) ≤ 3
 three-digits n small = length-decimal-le 3 n (omega arith) (omega arith) (omega arith)
 
-pub six-letters : (mark : Mark) → length (markName mark) ≤ 6
+pub six-letters : (label : Label) → length (labelName label) ≤ 6
 six-letters (Closed Empty) = omega arith
 six-letters (Closed Escape) = omega arith
 six-letters (Closed Long) = omega arith
@@ -79,9 +79,9 @@ unfolding written
 front-written old new text count e n = (λ i. take (n i - 0) (e i)) ∙ take-at text (drop (0 + length text) old) (length text - 0) (omega arith)
 
 -- no line is empty: it has a line feed at least
-pub line-some : (mark : Mark) (piece : Answer) → 0 < length (lineOf mark piece)
+pub line-some : (label : Label) (piece : Located) → 0 < length (lineOf label piece)
 unfolding lineOf
-line-some mark piece =
+line-some label piece =
     let first = field (decimal (piece .start)) space in
-    let rest = field (decimal (length (piece .raw))) space ++ (field (markName mark) space ++ field (commandText (piece .command)) lineFeed) in
+    let rest = field (decimal (length (piece .raw))) space ++ (field (labelName label) space ++ field (commandText (piece .command)) lineFeed) in
     omega (arith, length-append first rest, length-field (decimal (piece .start)) space)

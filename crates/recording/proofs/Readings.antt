@@ -10,11 +10,11 @@ use Rattle.std.specs.declared.option.Option.{Option}
 use Rattle.std.specs.declared.result.Result.the-variants.{Ok}
 use Rattle.std.proofs.shelf.Tests.{le-ltb, ltb-false, cond-false}
 use Rattle.recording.specs.declared.status.Refusal.the-variants.{LongRecording, PlaceBeyond}
-use Rattle.recording.specs.declared.status.Mark.{Mark}
+use Rattle.recording.specs.declared.status.Label.{Label}
 use Rattle.recording.specs.declared.status.Status.{Status}
 use Rattle.recording.specs.declared.status.Status.the-variants.{End, Piece}
-use Rattle.recording.specs.Listing.{room, Small, textOf, lineAt, into}
-use Rattle.recording.specs.Pieces.{limit, startAt, runFrom, statusOf, commandIn, Answer, refusedAt, runAt, pieceAt}
+use Rattle.recording.specs.Listing.{room, textOf, lineAt, into}
+use Rattle.recording.specs.Pieces.{limit, startAt, runFrom, statusOf, commandIn, Located, refusedAt, runAt, pieceAt}
 use Rattle.recording.proofs.Runs.{start-within, run-within}
 
 -- a place within a recording that is not too long is not refused
@@ -26,7 +26,7 @@ not-refused bytes place short within =
 
 module _ (bytes : List ℕ) (place start stop next : ℕ) (raw : List ℕ) (status : Status) (command : Option ℕ) where
   -- the answer with these parts
-  abbrev whole : Answer
+  abbrev whole : Located
   whole = record { status = status; start = start; raw = raw; next = next; command = command }
 
   of-run : start ≡ startAt bytes place → raw ≡ runFrom bytes start → stop ≡ start + length (runFrom bytes start) → next ≡ min (stop + 1) (length bytes) → status ≡ statusOf (length bytes) start raw → command ≡ commandIn (statusOf (length bytes) start raw) raw → whole ≡ runAt bytes start
@@ -38,20 +38,25 @@ module _ (bytes : List ℕ) (place start stop next : ℕ) (raw : List ℕ) (stat
   put-together e-start e-raw e-stop e-next e-status e-command short within =
       of-run e-start e-raw e-stop e-next e-status e-command ∙ ap (runAt bytes) e-start ∙ sym (not-refused bytes place short within)
 
-small-at : (t u : Bool) (bytes : List ℕ) (place : ℕ) (mark : Mark) → ltb limit (length bytes) ≡ t → ltb (length bytes) place ≡ u → cond t (refusedAt LongRecording place) (cond u (refusedAt PlaceBeyond place) (runAt bytes (startAt bytes place))) .status ≡ Piece mark → Small (cond t (refusedAt LongRecording place) (cond u (refusedAt PlaceBeyond place) (runAt bytes (startAt bytes place))))
-small-at true u bytes place mark long beyond is = let z : _≡_ {A = ℕ} 0 1 = cc in absurd (omega arith)
-small-at false true bytes place mark long beyond is = let z : _≡_ {A = ℕ} 0 1 = cc in absurd (omega arith)
-small-at false false bytes place mark long beyond is =
+-- a piece begins within the limit and is no longer than it
+pub record Small (a : Located) : Type 0 where
+  pub start : a .start ≤ limit
+  pub raw : length (a .raw) ≤ limit
+
+small-at : (t u : Bool) (bytes : List ℕ) (place : ℕ) (label : Label) → ltb limit (length bytes) ≡ t → ltb (length bytes) place ≡ u → cond t (refusedAt LongRecording place) (cond u (refusedAt PlaceBeyond place) (runAt bytes (startAt bytes place))) .status ≡ Piece label → Small (cond t (refusedAt LongRecording place) (cond u (refusedAt PlaceBeyond place) (runAt bytes (startAt bytes place))))
+small-at true u bytes place label long beyond is = let z : _≡_ {A = ℕ} 0 1 = cc in absurd (omega arith)
+small-at false true bytes place label long beyond is = let z : _≡_ {A = ℕ} 0 1 = cc in absurd (omega arith)
+small-at false false bytes place label long beyond is =
     let short = ltb-false limit (length bytes) long in
     let within = start-within bytes place (ltb-false (length bytes) place beyond) in
     record { start = omega arith; raw = omega (arith, run-within bytes (startAt bytes place) within) }
 
-piece-small : (bytes : List ℕ) (place : ℕ) (mark : Mark) → pieceAt bytes place .status ≡ Piece mark → Small (pieceAt bytes place)
+piece-small : (bytes : List ℕ) (place : ℕ) (label : Label) → pieceAt bytes place .status ≡ Piece label → Small (pieceAt bytes place)
 unfolding pieceAt
-piece-small bytes place mark is = small-at (ltb limit (length bytes)) (ltb (length bytes) place) bytes place mark refl refl is
+piece-small bytes place label is = small-at (ltb limit (length bytes)) (ltb (length bytes) place) bytes place label refl refl is
 
-pub reading-small : (a : Answer) (bytes : List ℕ) (place : ℕ) (mark : Mark) → a ≡ pieceAt bytes place → a .status ≡ Piece mark → Small a
-reading-small a bytes place mark told is = subst Small (sym told) (piece-small bytes place mark (sym (ap (λ (x : Answer). x .status) told) ∙ is))
+pub reading-small : (a : Located) (bytes : List ℕ) (place : ℕ) (label : Label) → a ≡ pieceAt bytes place → a .status ≡ Piece label → Small a
+reading-small a bytes place label told is = subst Small (sym told) (piece-small bytes place label (sym (ap (λ (x : Located). x .status) told) ∙ is))
 
 -- at the end there is nothing to write
 pub no-text : (bytes : List ℕ) (place : ℕ) (out : List ℕ) → pieceAt bytes place .status ≡ End → room ≤ length out → into out (lineAt bytes place) ≡ Ok []

@@ -1,4 +1,4 @@
-pub mod Cases
+-- The definitions that the contracts cite of `recording`.
 pub mod Laws
 pub mod Listing
 pub mod Pieces

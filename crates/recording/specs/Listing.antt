@@ -1,7 +1,7 @@
 -- The listing of a recording: a line of names, and a line for each piece. Assumes nothing.
 use mathlib.Core.Bool.{cond}
 use mathlib.Core.List.{List, [], _∷_, _++_}
-use Prim.Native.Nat.{ℕ, _≤_}
+use Prim.Native.Nat.{ℕ}
 use lib.Chars.{codes}
 use lib.Dec.{ltb}
 use lib.ListN.{length}
@@ -11,13 +11,13 @@ use Rattle.std.specs.declared.option.Option.the-variants.{Some, None}
 use Rattle.std.specs.declared.result.Result.{Result}
 use Rattle.std.specs.declared.result.Result.the-variants.{Ok, Err}
 use Rattle.frame.specs.Written.{written}
-use Rattle.recording.specs.declared.status.Mark.{Mark}
+use Rattle.recording.specs.declared.status.Label.{Label}
 use Rattle.recording.specs.declared.status.Refusal.{Refusal}
 use Rattle.recording.specs.declared.status.Refusal.the-variants.{ShortBuffer}
 use Rattle.recording.specs.declared.status.Status.{Status}
 use Rattle.recording.specs.declared.status.Status.the-variants.{Refused, End, Piece}
-use Rattle.recording.specs.Pieces.{limit, Answer, pieceAt}
-use Rattle.recording.specs.Statuses.{markName}
+use Rattle.recording.specs.Pieces.{Located, pieceAt}
+use Rattle.recording.specs.Statuses.{labelName}
 
 -- a line buffer has at least this many bytes
 abbrev pub room : ℕ
@@ -38,25 +38,20 @@ abbrev pub commandText : Option ℕ → List ℕ
 commandText None = codes "-"
 commandText (Some command) = decimal command
 
--- the line of a piece: its place, its count of raw bytes, its mark, its command
-unfoldable pub lineOf : Mark → Answer → List ℕ
-lineOf mark piece =
-    field (decimal (piece .start)) space ++ (field (decimal (length (piece .raw))) space ++ (field (markName mark) space ++ field (commandText (piece .command)) lineFeed))
-
--- a piece begins within the limit and is no longer than it, so that its numbers have at most five digits
-pub record Small (piece : Answer) : Type 0 where
-  pub start : piece .start ≤ limit
-  pub raw : length (piece .raw) ≤ limit
+-- the line of a piece: its place, its count of raw bytes, its label, its command
+unfoldable pub lineOf : Label → Located → List ℕ
+lineOf label piece =
+    field (decimal (piece .start)) space ++ (field (decimal (length (piece .raw))) space ++ (field (labelName label) space ++ field (commandText (piece .command)) lineFeed))
 
 -- the line over all others
 abbrev pub namesLine : List ℕ
 namesLine = field (codes "place bytes verdict command") lineFeed
 
 -- the text for an answer: nothing at the end
-abbrev pub textOf : Status → Answer → Result (List ℕ) Refusal
+abbrev pub textOf : Status → Located → Result (List ℕ) Refusal
 textOf (Refused refusal) answer = Err refusal
 textOf End answer = Ok []
-textOf (Piece mark) answer = Ok (lineOf mark answer)
+textOf (Piece label) answer = Ok (lineOf label answer)
 
 -- the text for a place
 abbrev pub lineAt : List ℕ → ℕ → Result (List ℕ) Refusal
@@ -82,5 +77,5 @@ orNothing (Ok text) = text
 orNothing (Err refusal) = []
 
 -- the line for an answer: only a piece has one
-abbrev pub lineFor : Answer → List ℕ
+abbrev pub lineFor : Located → List ℕ
 lineFor answer = orNothing (textOf (answer .status) answer)

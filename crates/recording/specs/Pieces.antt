@@ -14,7 +14,7 @@ use Rattle.frame.specs.Escapes.{flag}
 use Rattle.frame.specs.First.{firstOf, _⇒_}
 use Rattle.frame.specs.Verdicts.{contentOf, verdictOf}
 use Rattle.recording.specs.declared.reader.Reading.{Reading}
-use Rattle.recording.specs.declared.status.Mark.the-variants.{Open, Stray, Closed}
+use Rattle.recording.specs.declared.status.Label.the-variants.{Open, Stray, Closed}
 use Rattle.recording.specs.declared.status.Refusal.{Refusal}
 use Rattle.recording.specs.declared.status.Refusal.the-variants.{LongRecording, PlaceBeyond}
 use Rattle.recording.specs.declared.status.Status.{Status}
@@ -24,9 +24,13 @@ use Rattle.recording.specs.declared.status.Status.the-variants.{Refused, End, 
 abbrev pub limit : ℕ
 limit = 65536
 
--- where the run begins that a place speaks of: at the place itself, but past a leading flag at place 0
+-- at place 0 a leading flag is passed over
+abbrev pub passes : List ℕ → ℕ → Bool
+passes bytes place = eqb place 0 && eqb (getD bytes 0 0) flag
+
+-- where the run begins that a place speaks of: past that flag, or at the place itself
 abbrev pub startAt : List ℕ → ℕ → ℕ
-startAt bytes place = cond (eqb place 0 && eqb (getD bytes 0 0) flag) 1 place
+startAt bytes place = cond (passes bytes place) 1 place
 
 -- any byte but the flag
 abbrev pub plain : ℕ → Bool
@@ -69,7 +73,7 @@ commandIn (Piece Stray) raw = None
 commandIn (Piece (Closed verdict)) raw = commandOf verdict (contentOf raw)
 
 -- what there is to say of a place
-pub record Answer : Type 0 where
+pub record Located : Type 0 where
   pub status : Status
   -- where the run begins
   pub start : ℕ
@@ -80,11 +84,11 @@ pub record Answer : Type 0 where
   pub command : Option ℕ
 
 -- a refusal hands back no byte, and the place that was given
-abbrev pub refusedAt : Refusal → ℕ → Answer
+abbrev pub refusedAt : Refusal → ℕ → Located
 refusedAt refusal place = record { status = Refused refusal; start = place; raw = []; next = place; command = None }
 
 -- the run that begins here: on past its closing flag, or at the recording's end
-abbrev pub runAt : List ℕ → ℕ → Answer
+abbrev pub runAt : List ℕ → ℕ → Located
 runAt bytes start = record {
   status = statusOf (length bytes) start (runFrom bytes start);
   start = start;
@@ -94,7 +98,7 @@ runAt bytes start = record {
 }
 
 -- the first answer that fits
-unfoldable pub pieceAt : List ℕ → ℕ → Answer
+unfoldable pub pieceAt : List ℕ → ℕ → Located
 pieceAt bytes place =
     firstOf
     ((ltb limit (length bytes) ⇒ refusedAt LongRecording place)
@@ -103,24 +107,24 @@ pieceAt bytes place =
     (runAt bytes (startAt bytes place))
 
 -- a reading, with the bytes that it borrows
-abbrev pub answered : Reading → Answer
-answered r = record { status = r .status; start = r .start; raw = r .raw .now; next = r .next; command = r .command }
+abbrev pub located : Reading → Located
+located r = record { status = r .status; start = r .start; raw = r .raw .now; next = r .next; command = r .command }
 
 -- where a piece goes on; nothing else does
 abbrev pub onward : Status → ℕ → Option ℕ
 onward (Refused r) next = None
 onward End next = None
-onward (Piece mark) next = Some next
+onward (Piece label) next = Some next
 
-abbrev pub onwardFrom : Answer → Option ℕ
+abbrev pub onwardFrom : Located → Option ℕ
 onwardFrom answer = onward (answer .status) (answer .next)
 
 -- the answers of calls made one after another, each at the place that the one before gave, as long as pieces come: at most so many
-unfoldable pub answersFrom : ℕ → List ℕ → ℕ → List Answer
-answersFrom zero bytes place = []
-answersFrom (suc n) bytes place =
-    cond (isSome (onwardFrom (pieceAt bytes place))) (pieceAt bytes place ∷ answersFrom n bytes (pieceAt bytes place .next)) []
+unfoldable pub piecesFrom : ℕ → List ℕ → ℕ → List Located
+piecesFrom zero bytes place = []
+piecesFrom (suc n) bytes place =
+    cond (isSome (onwardFrom (pieceAt bytes place))) (pieceAt bytes place ∷ piecesFrom n bytes (pieceAt bytes place .next)) []
 
 -- the pieces of a recording: it has no more of them than bytes
-abbrev pub answersOf : List ℕ → List Answer
-answersOf bytes = answersFrom (length bytes) bytes 0
+abbrev pub piecesOf : List ℕ → List Located
+piecesOf bytes = piecesFrom (length bytes) bytes 0

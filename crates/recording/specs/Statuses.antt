@@ -1,10 +1,10 @@
--- Every answer of the calls on a recording, with its number, and every mark with its name. Assumes nothing.
+-- Every answer of the calls on a recording, with its number, and every label with its name. Assumes nothing.
 use mathlib.Core.List.{List}
 use Prim.Native.Nat.{ℕ}
 use lib.Chars.{codes}
 use Rattle.frame.specs.declared.verdict.Verdict.the-variants.{Empty, Escape, Long, Short, Check, Good}
-use Rattle.recording.specs.declared.status.Mark.{Mark}
-use Rattle.recording.specs.declared.status.Mark.the-variants.{Open, Stray, Closed}
+use Rattle.recording.specs.declared.status.Label.{Label}
+use Rattle.recording.specs.declared.status.Label.the-variants.{Open, Stray, Closed}
 use Rattle.recording.specs.declared.status.Refusal.{Refusal}
 use Rattle.recording.specs.declared.status.Refusal.the-variants.{ShortBuffer, LongRecording, PlaceBeyond}
 use Rattle.recording.specs.declared.status.Status.{Status}
@@ -15,28 +15,28 @@ refusalNumber ShortBuffer = 201
 refusalNumber LongRecording = 202
 refusalNumber PlaceBeyond = 203
 
-abbrev pub markNumber : Mark → ℕ
-markNumber (Closed Empty) = 1
-markNumber (Closed Escape) = 2
-markNumber (Closed Long) = 3
-markNumber (Closed Short) = 4
-markNumber (Closed Check) = 5
-markNumber (Closed Good) = 6
-markNumber Open = 7
-markNumber Stray = 8
+abbrev pub labelNumber : Label → ℕ
+labelNumber (Closed Empty) = 1
+labelNumber (Closed Escape) = 2
+labelNumber (Closed Long) = 3
+labelNumber (Closed Short) = 4
+labelNumber (Closed Check) = 5
+labelNumber (Closed Good) = 6
+labelNumber Open = 7
+labelNumber Stray = 8
 
 abbrev pub statusNumber : Status → ℕ
 statusNumber End = 0
-statusNumber (Piece mark) = markNumber mark
+statusNumber (Piece label) = labelNumber label
 statusNumber (Refused refusal) = refusalNumber refusal
 
--- the word for a mark in a listing
-abbrev pub markName : Mark → List ℕ
-markName (Closed Empty) = codes "empty"
-markName (Closed Escape) = codes "escape"
-markName (Closed Long) = codes "long"
-markName (Closed Short) = codes "short"
-markName (Closed Check) = codes "check"
-markName (Closed Good) = codes "good"
-markName Open = codes "open"
-markName Stray = codes "stray"
+-- the word for a label in a listing
+abbrev pub labelName : Label → List ℕ
+labelName (Closed Empty) = codes "empty"
+labelName (Closed Escape) = codes "escape"
+labelName (Closed Long) = codes "long"
+labelName (Closed Short) = codes "short"
+labelName (Closed Check) = codes "check"
+labelName (Closed Good) = codes "good"
+labelName Open = codes "open"
+labelName Stray = codes "stray"

@@ -3,7 +3,7 @@ ghost use mathlib.Core.Path.{_≡_};
 ghost use Prim.Native.Nat.{_≤_, _<_};
 ghost use Rattle.std.specs.Vec.{made};
 ghost use Rattle.std.specs.declared.result.Result.the-variants.{Ok};
-ghost use Rattle.recording.specs.Listing.{namesLine, lineAt, into, counted, filled};
+ghost use Rattle.recording.specs.Listing.{room, namesLine, lineAt, into, counted, filled};
 use crate::reader::read;
 use crate::status::Refusal;
 use crate::status::Status;
@@ -20,7 +20,7 @@ const NAMES: &[u8] = b"place bytes verdict command";
 pub fn names(out: &mut [u8]) -> Result<usize, Refusal>
     ensures count { λ r. ⌜ r ≡ counted (into (now (out .entry)) (Ok namesLine)) ⌝ }
     ensures bytes { λ _. ⌜ now (out .exit) ≡ filled (now (out .entry)) (into (now (out .entry)) (Ok namesLine)) ⌝ }
-    ensures within { λ r. ⌜ made r (λ n. n ≤ 32) ⌝ }
+    ensures within { λ r. ⌜ made r (λ n. n ≤ room) ⌝ }
 {
     if out.len() < LINE_ROOM {
         return Err(Refusal::ShortBuffer);
@@ -32,7 +32,7 @@ pub fn names(out: &mut [u8]) -> Result<usize, Refusal>
 pub fn line(recording: &[u8], place: usize, out: &mut [u8]) -> Result<usize, Refusal>
     ensures count { λ r. ⌜ r ≡ counted (into (now (out .entry)) (lineAt (now (recording .entry)) place)) ⌝ }
     ensures bytes { λ _. ⌜ now (out .exit) ≡ filled (now (out .entry)) (into (now (out .entry)) (lineAt (now (recording .entry)) place)) ⌝ }
-    ensures within { λ r. ⌜ made r (λ n. n ≤ 32) ⌝ }
+    ensures within { λ r. ⌜ made r (λ n. n ≤ room) ⌝ }
 {
     if out.len() < LINE_ROOM {
         return Err(Refusal::ShortBuffer);
@@ -41,6 +41,6 @@ pub fn line(recording: &[u8], place: usize, out: &mut [u8]) -> Result<usize, Ref
     match reading.status {
         Status::Refused(refusal) => Err(refusal),
         Status::End => Ok(0),
-        Status::Piece(mark) => Ok(put_line(out, reading, mark)),
+        Status::Piece(label) => Ok(put_line(out, reading, label)),
     }
 }

@@ -3,11 +3,10 @@ ghost use mathlib.Core.Path.{_≡_};
 ghost use Prim.Native.Nat.{_+_, _-_, _≤_};
 ghost use lib.ListN.{length, take, drop};
 ghost use Rattle.frame.specs.Collected.{Collected};
-ghost use Rattle.recording.specs.Cases.{Worked-listing};
 ghost use Rattle.recording.specs.Laws.{Pieces-cover-the-recording, None-only-at-the-end};
-ghost use Rattle.recording.specs.Pieces.{startAt, runFrom, statusOf, commandOf, commandIn, refusedAt, pieceAt, answered};
+ghost use Rattle.recording.specs.Pieces.{startAt, runFrom, statusOf, commandOf, commandIn, refusedAt, pieceAt, located};
 ghost use Rattle.recording.specs.Statuses.{statusNumber};
-use crate::status::Mark;
+use crate::status::Label;
 use crate::status::Refusal;
 use crate::status::Status;
 use frame::FLAG;
@@ -38,7 +37,6 @@ pub fn piece(recording: &[u8], place: usize) -> (u16, &[u8], usize)
     ensures next { λ r. ⌜ r .2 ≡ pieceAt (now (recording .entry)) place .next ⌝ }
     ensures covers { λ _. ⌜ Pieces-cover-the-recording ⌝ }
     ensures none { λ _. ⌜ None-only-at-the-end ⌝ }
-    ensures worked { λ _. ⌜ Worked-listing ⌝ }
 {
     let reading = read(recording, place);
     (reading.status.number(), reading.raw, reading.next)
@@ -46,7 +44,7 @@ pub fn piece(recording: &[u8], place: usize) -> (u16, &[u8], usize)
 
 // Reads at a place. The checks of the recording's length and of the place come first, in this order.
 pub fn read(recording: &[u8], place: usize) -> Reading<'_>
-    ensures { λ r. ⌜ answered r ≡ pieceAt (now (recording .entry)) place ⌝ }
+    ensures { λ r. ⌜ located r ≡ pieceAt (now (recording .entry)) place ⌝ }
 {
     if recording.len() > LIMIT {
         return refused(recording, place, Refusal::LongRecording);
@@ -70,7 +68,7 @@ pub fn read(recording: &[u8], place: usize) -> Reading<'_>
 
 // No byte is handed back, and the place is the one that was given.
 fn refused(recording: &[u8], place: usize, refusal: Refusal) -> Reading<'_>
-    ensures { λ r. ⌜ answered r ≡ refusedAt refusal place ⌝ }
+    ensures { λ r. ⌜ located r ≡ refusedAt refusal place ⌝ }
 {
     Reading {
         status: Status::Refused(refusal),
@@ -90,14 +88,14 @@ fn judge(whole: usize, start: usize, raw: &[u8]) -> (Status, Option<u8>)
     if start == whole {
         (Status::End, None)
     } else if start + raw.len() == whole {
-        (Status::Piece(Mark::Open), None)
+        (Status::Piece(Label::Open), None)
     } else if start == 0 {
-        (Status::Piece(Mark::Stray), None)
+        (Status::Piece(Label::Stray), None)
     } else {
         let collector = collect(raw);
         let verdict = collector.verdict();
         (
-            Status::Piece(Mark::Closed(verdict)),
+            Status::Piece(Label::Closed(verdict)),
             command_of(verdict, collector.content()),
         )
     }

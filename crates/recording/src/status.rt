@@ -1,9 +1,7 @@
-// What a call on a recording answers: a piece with its mark, the end, or a refusal; each has a number, and each mark a name.
+// What a call on a recording answers: a piece with its label, the end, or a refusal; each has a number, and each label a name.
 ghost use mathlib.Core.Path.{_≡_};
-ghost use Rattle.recording.specs.Statuses.{refusalNumber, markNumber, statusNumber, markName};
+ghost use Rattle.recording.specs.Statuses.{refusalNumber, labelNumber, statusNumber, labelName};
 use frame::verdict::Verdict;
-use frame::verdict::VerdictDebug;
-use frame::verdict::VerdictPartialEq;
 
 // Why a call was refused. Nothing is changed then.
 #[derive(Clone, Copy, PartialEq, Eq, Debug)]
@@ -17,8 +15,8 @@ pub enum Refusal {
 }
 
 // What a run of bytes in a recording is.
-#[derive(Clone, Copy, PartialEq, Eq, Debug)]
-pub enum Mark {
+#[derive(Clone, Copy)]
+pub enum Label {
     // No flag comes after it.
     Open,
     // It begins the recording, with no flag before it.
@@ -28,11 +26,11 @@ pub enum Mark {
 }
 
 // What the piece call answers.
-#[derive(Clone, Copy, PartialEq, Eq, Debug)]
+#[derive(Clone, Copy)]
 pub enum Status {
     Refused(Refusal),
     End,
-    Piece(Mark),
+    Piece(Label),
 }
 
 impl Refusal {
@@ -47,35 +45,35 @@ impl Refusal {
     }
 }
 
-impl Mark {
+impl Label {
     fn number(self) -> u16
-        ensures { λ r. ⌜ r ≡ markNumber self ⌝ }
+        ensures { λ r. ⌜ r ≡ labelNumber self ⌝ }
     {
         match self {
-            Mark::Closed(Verdict::Empty) => 1,
-            Mark::Closed(Verdict::Escape) => 2,
-            Mark::Closed(Verdict::Long) => 3,
-            Mark::Closed(Verdict::Short) => 4,
-            Mark::Closed(Verdict::Check) => 5,
-            Mark::Closed(Verdict::Good) => 6,
-            Mark::Open => 7,
-            Mark::Stray => 8,
+            Label::Closed(Verdict::Empty) => 1,
+            Label::Closed(Verdict::Escape) => 2,
+            Label::Closed(Verdict::Long) => 3,
+            Label::Closed(Verdict::Short) => 4,
+            Label::Closed(Verdict::Check) => 5,
+            Label::Closed(Verdict::Good) => 6,
+            Label::Open => 7,
+            Label::Stray => 8,
         }
     }
 
     // The word for it in a listing.
     pub(crate) fn name(self) -> &'static str
-        ensures { λ r. ⌜ now r ≡ markName self ⌝ }
+        ensures { λ r. ⌜ now r ≡ labelName self ⌝ }
     {
         match self {
-            Mark::Closed(Verdict::Empty) => "empty",
-            Mark::Closed(Verdict::Escape) => "escape",
-            Mark::Closed(Verdict::Long) => "long",
-            Mark::Closed(Verdict::Short) => "short",
-            Mark::Closed(Verdict::Check) => "check",
-            Mark::Closed(Verdict::Good) => "good",
-            Mark::Open => "open",
-            Mark::Stray => "stray",
+            Label::Closed(Verdict::Empty) => "empty",
+            Label::Closed(Verdict::Escape) => "escape",
+            Label::Closed(Verdict::Long) => "long",
+            Label::Closed(Verdict::Short) => "short",
+            Label::Closed(Verdict::Check) => "check",
+            Label::Closed(Verdict::Good) => "good",
+            Label::Open => "open",
+            Label::Stray => "stray",
         }
     }
 }
@@ -87,7 +85,7 @@ impl Status {
     {
         match self {
             Status::End => 0,
-            Status::Piece(mark) => mark.number(),
+            Status::Piece(label) => label.number(),
             Status::Refused(refusal) => refusal.number(),
         }
     }

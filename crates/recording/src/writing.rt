@@ -5,22 +5,23 @@ ghost use Prim.Native.Nat.{_+_, _≤_, _<_};
 ghost use lib.ListN.{length};
 ghost use Rattle.std.specs.Written.{decimal};
 ghost use Rattle.frame.specs.Written.{written};
-ghost use Rattle.recording.specs.Listing.{field, commandText, lineOf, Small};
-ghost use Rattle.recording.specs.Pieces.{answered};
+ghost use Rattle.recording.specs.Listing.{field, commandText, room, lineOf};
+ghost use Rattle.recording.specs.Pieces.{limit, located};
 use crate::reader::Reading;
-use crate::status::Mark;
+use crate::status::Label;
 
 // Writes the four fields of the line of a piece.
-pub(crate) fn put_line(out: &mut [u8], piece: Reading<'_>, mark: Mark) -> usize
-    requires long { ⌜ 32 ≤ length (now out) ⌝ }
-    requires small { ⌜ Small (answered piece) ⌝ }
-    ensures place { λ r. ⌜ r ≡ length (lineOf mark (answered (piece .entry))) ⌝ }
-    ensures bytes { λ _. ⌜ now (out .exit) ≡ written (now (out .entry)) 0 (lineOf mark (answered (piece .entry))) ⌝ }
-    ensures within { λ r. ⌜ r ≤ 32 ⌝ }
+pub(crate) fn put_line(out: &mut [u8], piece: Reading<'_>, label: Label) -> usize
+    requires long { ⌜ room ≤ length (now out) ⌝ }
+    requires start { ⌜ piece .start ≤ limit ⌝ }
+    requires raw { ⌜ length (now (piece .raw)) ≤ limit ⌝ }
+    ensures place { λ r. ⌜ r ≡ length (lineOf label (located (piece .entry))) ⌝ }
+    ensures bytes { λ _. ⌜ now (out .exit) ≡ written (now (out .entry)) 0 (lineOf label (located (piece .entry))) ⌝ }
+    ensures within { λ r. ⌜ r ≤ room ⌝ }
 {
     let at = put_number(out, 0, piece.start, b' ');
     let at = put_number(out, at, piece.raw.len(), b' ');
-    let at = put_field(out, at, mark.name().as_bytes(), b' ');
+    let at = put_field(out, at, label.name().as_bytes(), b' ');
     put_command(out, at, piece.command, b'\n')
 }
 

@@ -1,3 +1,4 @@
+-- What the search leaves to show of `fcs16`.
 use mathlib.Core.Path.{ap, _∙_}
 use lib.Bits.{bitXor}
 use lib.Seq.{take-all}

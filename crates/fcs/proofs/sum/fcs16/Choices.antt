@@ -1,3 +1,4 @@
+-- What each turn of the loop in `fcs16` keeps.
 use mathlib.Core.Path.{_≡_}
 use Prim.Native.Nat.{_^_, _<_}
 use lib.ListN.{take}

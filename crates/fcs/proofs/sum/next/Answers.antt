@@ -1,3 +1,4 @@
+-- What the search leaves to show of `next`.
 use mathlib.Core.Path.{ap, _∙_}
 use native.Mathlib.Omega.{arith}
 use lib.Bits.{bitXor, and-mask}

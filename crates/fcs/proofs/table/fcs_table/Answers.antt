@@ -1,3 +1,4 @@
+-- What the search leaves to show of `fcs_table`.
 use mathlib.Core.Path.{refl}
 use Rattle.fcs.specs.Sum.{bitStep, eightSteps}
 use Rattle.fcs.proofs.Rule.{rule}

@@ -1,3 +1,4 @@
+-- What the search leaves to show of `put_byte`.
 use mathlib.Core.Path.{_≡_, sym, ap, _∙_}
 use mathlib.Core.List.{[], _∷_}
 use Prim.Native.Nat.{_+_}

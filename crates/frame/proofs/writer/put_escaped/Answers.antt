@@ -1,3 +1,4 @@
+-- What the search leaves to show of `put_escaped`.
 use mathlib.Core.Path.{sym, ap, _∙_}
 use Prim.Native.Nat.{_+_}
 use native.Mathlib.Nat.{add-zero}

@@ -1,3 +1,4 @@
+-- What each turn of the loop in `put_escaped` keeps.
 use mathlib.Core.Path.{_≡_}
 use Prim.Native.Nat.{_+_}
 use lib.ListN.{length, take}

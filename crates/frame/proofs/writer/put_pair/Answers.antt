@@ -1,3 +1,4 @@
+-- What the search leaves to show of `put_pair`.
 use mathlib.Core.Path.{refl}
 use Rattle.frame.proofs.Writes.{written-pair}
 use Rattle.frame.proofs.writer.put_pair.Needs as need

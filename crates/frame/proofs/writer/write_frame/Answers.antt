@@ -1,3 +1,4 @@
+-- What the search leaves to show of `write_frame`.
 use mathlib.Core.Path.{_≡_, sym, ap, _∙_}
 use mathlib.Core.List.{[], _∷_, _++_}
 use Prim.Native.Nat.{_+_, _≤_, _<_}

@@ -1,3 +1,4 @@
+-- What the search leaves to show of `append_line`.
 use mathlib.Core.Path.{refl, sym, ap, _∙_}
 use mathlib.Core.List.{_++_, append-nil}
 use Prim.Native.Nat.{_-_}
@@ -7,7 +8,7 @@ use Rattle.std.proofs.shelf.Parts.{pushed}
 use Rattle.recording.specs.Listing.{filled, lineFor}
 use Rattle.recording.specs.Pieces.{pieceAt}
 use Rattle.recording.proofs.Fields.{front-written}
-use Rattle.pieces.proofs.Lists.{no-text, ends-here, goes-on, text-told, count-told}
+use Rattle.pieces.proofs.Lists.{no-line-text, ends-here, goes-on, text-told, count-told}
 use Rattle.pieces.proofs.listing.append_line.Needs as need
 
 pub returns-then-count-eq0 : need.returns-then-count-eq0
@@ -17,7 +18,7 @@ returns-then-count-eq0 c =
     let none = ends-here here (c .in-Ok .count) (c .if-count-eq0 .taken) (c .in-Ok .ensures tt .count) in
     record {
       next = none;
-      text = sym (ap (λ l. text ++ l) (no-text (here .status) (here .next) here none) ∙ append-nil text);
+      text = sym (ap (λ l. text ++ l) (no-line-text (here .status) (here .next) here none) ∙ append-nil text);
     }
 
 pub returns : need.returns

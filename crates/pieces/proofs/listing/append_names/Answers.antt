@@ -1,3 +1,4 @@
+-- What the search leaves to show of `append_names`.
 use mathlib.Core.Path.{refl, ap, _∙_}
 use mathlib.Core.List.{_++_}
 use Prim.Native.Nat.{_-_}

@@ -1,3 +1,4 @@
+-- What the search leaves to show of `collect`.
 use mathlib.Core.Path.{sym, subst}
 use lib.Seq.{take-all}
 use Rattle.std.proofs.shelf.Lists.{take-more}

@@ -1,3 +1,4 @@
+-- What each turn of the loop in `collect` keeps.
 use lib.ListN.{take}
 use Rattle.frame.specs.Collected.{Collected}
 use Rattle.recording.proofs.reader.collect.Given as given

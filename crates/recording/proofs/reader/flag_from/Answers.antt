@@ -1,3 +1,4 @@
+-- What the search leaves to show of `flag_from`.
 use mathlib.Core.Path.{_≡_}
 use Prim.Native.Nat.{_+_}
 use native.Mathlib.Omega.{arith}

@@ -1,3 +1,4 @@
+-- What each turn of the loop in `flag_from` keeps.
 use mathlib.Core.Path.{_≡_}
 use Prim.Native.Nat.{_+_}
 use Rattle.recording.proofs.Runs.{reach}

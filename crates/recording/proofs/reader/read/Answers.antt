@@ -1,3 +1,4 @@
+-- What the search leaves to show of `read`.
 use borrow.Author.Needs.{needs}
 use Rattle.recording.specs.Pieces.{pieceAt}
 use Rattle.recording.proofs.Readings.{put-together}

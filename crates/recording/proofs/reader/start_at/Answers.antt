@@ -1,3 +1,4 @@
+-- What the search leaves to show of `start_at`.
 use mathlib.Core.Path.{sym}
 use native.Mathlib.Omega.{arith}
 use lib.ListN.{length}

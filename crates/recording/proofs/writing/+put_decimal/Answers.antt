@@ -1,3 +1,4 @@
+-- What the search leaves to show of `put_decimal`.
 use mathlib.Core.Path.{sym, ap, _∙_}
 use mathlib.Core.List.{[], _∷_}
 use Prim.Native.Nat.{_+_, _/_, _%_}

@@ -1,3 +1,4 @@
+-- What the search leaves to show of `put_command`.
 use native.Mathlib.Omega.{arith}
 use borrow.Author.Needs.{needs}
 use Rattle.std.specs.Written.{decimal}

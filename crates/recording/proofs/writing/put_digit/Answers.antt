@@ -1,3 +1,4 @@
+-- What the search leaves to show of `put_digit`.
 use mathlib.Core.Path.{refl}
 use Prim.Native.Nat.{_+_}
 use Rattle.frame.proofs.Writes.{written-byte}

@@ -1,3 +1,4 @@
+-- What the search leaves to show of `Collector::clear`.
 use borrow.Author.Needs.{needs}
 use Rattle.frame.proofs.Pieces.{piece-none}
 use Rattle.frame.proofs.collector.Collector.clear.Needs as need

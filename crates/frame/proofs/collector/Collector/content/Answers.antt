@@ -1,3 +1,4 @@
+-- What the search leaves to show of `Collector::content`.
 use mathlib.Core.Path.{_∙_}
 use Rattle.frame.proofs.Pieces.{piece-content}
 use Rattle.frame.proofs.collector.Collector.content.Needs as need

@@ -1,3 +1,4 @@
+-- What the search leaves to show of `Collector::new`.
 use borrow.Author.Needs.{needs}
 use Rattle.frame.proofs.Pieces.{piece-none}
 use Rattle.frame.proofs.collector.Collector.new.Needs as need

@@ -1,3 +1,4 @@
+-- What the search leaves to show of `Collector::put`.
 use borrow.Author.Needs.{needs}
 use Rattle.frame.proofs.Pieces.{piece-more}
 use Rattle.frame.proofs.collector.Collector.put.Needs as need

@@ -1,3 +1,4 @@
+-- What the search leaves to show of `Collector::verdict`.
 use borrow.Author.Needs.{needs}
 use Rattle.frame.proofs.Pieces.{piece-verdict}
 use Rattle.frame.proofs.collector.Collector.verdict.Needs as need

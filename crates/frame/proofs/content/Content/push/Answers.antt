@@ -1,3 +1,4 @@
+-- What the search leaves to show of `Content::push`.
 use mathlib.Core.Path.{sym, ap, _∙_}
 use Prim.Native.Nat.{_+_, _<_}
 use native.Mathlib.Omega.{arith}

@@ -1,3 +1,4 @@
+-- What the search leaves to show of `Receiver::new`.
 use borrow.Author.Needs.{needs}
 use Rattle.frame.proofs.Following.{receiver-laws}
 use Rattle.frame.proofs.receiver.Receiver.new.Needs as need

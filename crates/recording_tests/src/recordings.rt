@@ -23,43 +23,39 @@ fn listing(heap: Global, recording: &[u8]) -> Result<Vec<u8>, Fail> {
     Ok(text)
 }
 
+// A recording and its lines.
+const LISTINGS: [(&[u8], &[u8]); 12] = [
+    (b"", b""),
+    (b"~", b""),
+    (b"~~", b"1 0 empty -\n"),
+    (b"abc", b"0 3 open -\n"),
+    (b"abc~", b"0 3 stray -\n"),
+    (b"~abc", b"1 3 open -\n"),
+    (
+        b"abc~\x06\0\x08\x5d\x9c~def",
+        b"0 3 stray -\n4 5 good 6\n10 3 open -\n",
+    ),
+    (
+        b"~\x06\0\x08\x7d~\x06\0\x08\x5d\x9c~",
+        b"1 4 escape -\n6 5 good 6\n",
+    ),
+    (b"~\x06\0\x08\x5d\x9d~\x06~", b"1 5 check -\n7 1 short -\n"),
+    (b"~\xff\0\x08\x77\x8c~", b"1 5 good 255\n"),
+    // An escape byte alone, before a byte that needs none, and before another escape byte.
+    (
+        b"~\x7d~\x06\x7d\0\x08~\x7d\x7d\x5e~",
+        b"1 1 escape -\n3 4 escape -\n8 3 escape -\n",
+    ),
+    // Four bytes with one of them escaped, and check bytes in the wrong order.
+    (
+        b"~\x06\0\x7d\x5e\x9c~\x06\0\x08\x9c\x5d~",
+        b"1 5 short -\n7 5 check -\n",
+    ),
+];
+
 #[test]
 fn listings(rt: LibcRuntime) -> Result<(), Fail> {
-    let table = [
-        (b"" as &[u8], b"" as &[u8]),
-        (b"~", b""),
-        (b"~~", b"1 0 empty -\n"),
-        (b"abc", b"0 3 open -\n"),
-        (b"abc~", b"0 3 stray -\n"),
-        (b"~abc", b"1 3 open -\n"),
-        (
-            b"abc~\x06\0\x08\x5d\x9c~def",
-            b"0 3 stray -\n4 5 good 6\n10 3 open -\n",
-        ),
-        (
-            b"~\x06\0\x08\x7d~\x06\0\x08\x5d\x9c~",
-            b"1 4 escape -\n6 5 good 6\n",
-        ),
-        (b"~\x06\0\x08\x5d\x9d~\x06~", b"1 5 check -\n7 1 short -\n"),
-        (b"~\xff\0\x08\x77\x8c~", b"1 5 good 255\n"),
-        // An escape byte alone, before a byte that needs none, and before another escape byte.
-        (
-            b"~\x7d~\x06\x7d\0\x08~\x7d\x7d\x5e~",
-            b"1 1 escape -\n3 4 escape -\n8 3 escape -\n",
-        ),
-        // Four bytes with one of them escaped, and check bytes in the wrong order.
-        (
-            b"~\x06\0\x7d\x5e\x9c~\x06\0\x08\x9c\x5d~",
-            b"1 5 short -\n7 5 check -\n",
-        ),
-        // The vendor guide's two framing examples.
-        (
-            b"~\x03\x07\x02\0\0\0\0\x03\0\x7d\x5d\x9a\xb2~",
-            b"1 13 good 3\n",
-        ),
-        (b"~\x04\x03\x01\0\x03\0\x7d\x5e\xa2\x91~", b"1 10 good 4\n"),
-    ];
-    for (recording, expected) in table {
+    for (recording, expected) in LISTINGS {
         let text = listing(rt.alloc(), recording)?;
         check_eq(text.as_slice(), expected)?;
     }
@@ -93,7 +89,15 @@ fn limit_of_a_recording(rt: LibcRuntime) -> Result<(), Fail> {
     check_eq((status, raw.len(), next), (7, 65_536, 65_536))?;
     bytes.push(0)?;
     let (status, raw, next) = piece(bytes.as_slice(), 70_000);
-    check_eq((status, raw.len(), next), (202, 0, 70_000))
+    check_eq((status, raw.len(), next), (202, 0, 70_000))?;
+    check_eq(
+        line(bytes.as_slice(), 70_000, &mut [0; 32]),
+        Err(Refusal::LongRecording),
+    )?;
+    check_eq(
+        line(bytes.as_slice(), 70_000, &mut [0; 31]),
+        Err(Refusal::ShortBuffer),
+    )
 }
 
 #[test]
