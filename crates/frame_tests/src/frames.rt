@@ -2,7 +2,6 @@
 use frame::FLAG;
 use frame::receiver::Receiver;
 use frame::verdict::Verdict;
-use frame::verdict::VerdictDebug;
 use frame::verdict::VerdictPartialEq;
 use frame::writer::write_frame;
 use std::test::*;
@@ -31,6 +30,11 @@ fn give(receiver: &mut Receiver, bytes: &[u8]) {
     }
 }
 
+// Whether a flag would close a piece with this verdict now.
+fn closes(receiver: &Receiver, verdict: Verdict) -> bool {
+    receiver.closing() == Some(verdict)
+}
+
 #[test]
 fn frames_there_and_back() -> Result<(), Fail> {
     for (message, frame) in EXAMPLES {
@@ -38,12 +42,12 @@ fn frames_there_and_back() -> Result<(), Fail> {
         check_eq(write_frame(message, &mut out), Some(frame.len()))?;
         check(0 < frame.len() && frame.len() < 16)?;
         check_eq(&out[0..frame.len()], frame)?;
-        check_eq(out[15], 0xee)?;
+        check(out[15] == 0xee)?;
         let mut receiver = Receiver::new();
         give(&mut receiver, &frame[0..frame.len() - 1]);
-        check_eq(receiver.closing(), Some(Verdict::Good))?;
+        check(closes(&receiver, Verdict::Good))?;
         check(receiver.content().starts_with(message))?;
-        check_eq(receiver.content().len(), message.len() + 2)?;
+        check(receiver.content().len() == message.len() + 2)?;
     }
     Ok(())
 }
@@ -71,29 +75,29 @@ fn sent(count: usize, fill: u8) -> Result<Receiver, Fail> {
 fn longest_content() -> Result<(), Fail> {
     for fill in [0x00, 0x7e, 0x7d] {
         let receiver = sent(123, fill)?;
-        check_eq(receiver.closing(), Some(Verdict::Good))?;
-        check_eq(receiver.content().len(), 125)?;
+        check(closes(&receiver, Verdict::Good))?;
+        check(receiver.content().len() == 125)?;
         let mut receiver = sent(124, fill)?;
-        check_eq(receiver.closing(), Some(Verdict::Long))?;
+        check(closes(&receiver, Verdict::Long))?;
         receiver.put(0x7d);
-        check_eq(receiver.closing(), Some(Verdict::Escape))?;
+        check(closes(&receiver, Verdict::Escape))?;
     }
     // Two bytes and their check bytes are one short of a content.
-    check_eq(sent(2, 0x00)?.closing(), Some(Verdict::Short))
+    check(closes(&sent(2, 0x00)?, Verdict::Short))
 }
 
 #[test]
 fn noise_is_not_carried_over_a_flag() -> Result<(), Fail> {
     let mut receiver = Receiver::new();
     give(&mut receiver, JOIN);
-    check_eq(receiver.closing(), None).note("no flag came yet")?;
-    check_eq(receiver.content().len(), 0)?;
+    check(receiver.closing().is_none()).note("no flag came yet")?;
+    check(receiver.content().is_empty())?;
     for noise in NOISE {
         receiver.put(FLAG);
         give(&mut receiver, noise);
         receiver.put(FLAG);
         give(&mut receiver, JOIN);
-        check_eq(receiver.closing(), Some(Verdict::Good))?;
+        check(closes(&receiver, Verdict::Good))?;
         check_eq(receiver.content(), JOIN)?;
     }
     Ok(())

@@ -76,8 +76,8 @@ fn places() -> Result<(), Fail> {
         (9, 203, 0, 9),
     ];
     for (place, status, count, next) in table {
-        let (got_status, raw, got_next) = piece(recording, place);
-        check_eq((got_status, raw.len(), got_next), (status, count, next))?;
+        let found = piece(recording, place);
+        check(found.0 == status && found.1.len() == count && found.2 == next)?;
     }
     Ok(())
 }
@@ -85,11 +85,11 @@ fn places() -> Result<(), Fail> {
 #[test]
 fn limit_of_a_recording(rt: LibcRuntime) -> Result<(), Fail> {
     let mut bytes = vec![in rt.alloc(); 0; 65_536]?;
-    let (status, raw, next) = piece(bytes.as_slice(), 0);
-    check_eq((status, raw.len(), next), (7, 65_536, 65_536))?;
+    let whole = piece(bytes.as_slice(), 0);
+    check(whole.0 == 7 && whole.1.len() == 65_536 && whole.2 == 65_536)?;
     bytes.push(0)?;
-    let (status, raw, next) = piece(bytes.as_slice(), 70_000);
-    check_eq((status, raw.len(), next), (202, 0, 70_000))?;
+    let refused = piece(bytes.as_slice(), 70_000);
+    check(refused.0 == 202 && refused.1.is_empty() && refused.2 == 70_000)?;
     check_eq(
         line(bytes.as_slice(), 70_000, &mut [0; 32]),
         Err(Refusal::LongRecording),
