@@ -38,7 +38,7 @@ bitStep-xor x y =
     let low = ap fed (xor-mod x y 1) ∙ fed-xor (x % 2) (y % 2) (mod-below x 2 (omega arith)) (mod-below y 2 (omega arith)) in
     (λ i. bitXor (half i) (low i)) ∙ xor-swap (x / 2) (y / 2) (fed (x % 2)) (fed (y % 2))
 
-pub eightSteps-xor : (x y : ℕ) → eightSteps (bitXor x y) ≡ bitXor (eightSteps x) (eightSteps y)
+eightSteps-xor : (x y : ℕ) → eightSteps (bitXor x y) ≡ bitXor (eightSteps x) (eightSteps y)
 unfolding eightSteps
 eightSteps-xor x y = simp bitStep-xor
 

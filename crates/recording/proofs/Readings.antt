@@ -29,14 +29,14 @@ module _ (bytes : List ℕ) (place start stop next : ℕ) (raw : List ℕ) (stat
   abbrev whole : Located
   whole = record { status = status; start = start; raw = raw; next = next; command = command }
 
-  of-run : start ≡ startAt bytes place → raw ≡ runFrom bytes start → stop ≡ start + length (runFrom bytes start) → next ≡ min (stop + 1) (length bytes) → status ≡ statusOf (length bytes) start raw → command ≡ commandIn (statusOf (length bytes) start raw) raw → whole ≡ runAt bytes start
-  of-run e-start e-raw e-stop e-next e-status e-command =
+  of-run : raw ≡ runFrom bytes start → stop ≡ start + length (runFrom bytes start) → next ≡ min (stop + 1) (length bytes) → status ≡ statusOf (length bytes) start raw → command ≡ commandIn (statusOf (length bytes) start raw) raw → whole ≡ runAt bytes start
+  of-run e-raw e-stop e-next e-status e-command =
       (λ i. record { status = e-status i; start = start; raw = raw; next = (e-next ∙ ap (λ n. min (n + 1) (length bytes)) e-stop) i; command = e-command i })
       ∙ (λ i. record { status = statusOf (length bytes) start (e-raw i); start = start; raw = e-raw i; next = min (start + length (runFrom bytes start) + 1) (length bytes); command = commandIn (statusOf (length bytes) start (e-raw i)) (e-raw i) })
 
   pub put-together : start ≡ startAt bytes place → raw ≡ runFrom bytes start → stop ≡ start + length (runFrom bytes start) → next ≡ min (stop + 1) (length bytes) → status ≡ statusOf (length bytes) start raw → command ≡ commandIn (statusOf (length bytes) start raw) raw → length bytes ≤ limit → place ≤ length bytes → whole ≡ pieceAt bytes place
   put-together e-start e-raw e-stop e-next e-status e-command short within =
-      of-run e-start e-raw e-stop e-next e-status e-command ∙ ap (runAt bytes) e-start ∙ sym (not-refused bytes place short within)
+      of-run e-raw e-stop e-next e-status e-command ∙ ap (runAt bytes) e-start ∙ sym (not-refused bytes place short within)
 
 -- a piece begins within the limit and is no longer than it
 pub record Small (a : Located) : Type 0 where

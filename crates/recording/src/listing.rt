@@ -1,6 +1,6 @@
 // The listing of a recording: the names line, and the line of a piece.
 ghost use mathlib.Core.Path.{_≡_};
-ghost use Prim.Native.Nat.{_≤_, _<_};
+ghost use Prim.Native.Nat.{_≤_};
 ghost use Rattle.std.specs.Vec.{made};
 ghost use Rattle.std.specs.declared.result.Result.the-variants.{Ok};
 ghost use Rattle.recording.specs.Listing.{room, namesLine, lineAt, into, counted, filled};
