@@ -90,28 +90,22 @@ fn limit_of_a_recording(rt: LibcRuntime) -> Result<(), Fail> {
     bytes.push(0)?;
     let refused = piece(bytes.as_slice(), 70_000);
     check(refused.0 == 202 && refused.1.is_empty() && refused.2 == 70_000)?;
-    check_eq(
-        line(bytes.as_slice(), 70_000, &mut [0; 32]),
-        Err(Refusal::LongRecording),
-    )?;
-    check_eq(
-        line(bytes.as_slice(), 70_000, &mut [0; 31]),
-        Err(Refusal::ShortBuffer),
-    )
+    check(line(bytes.as_slice(), 70_000, &mut [0; 32]) == Err(Refusal::LongRecording))?;
+    check(line(bytes.as_slice(), 70_000, &mut [0; 31]) == Err(Refusal::ShortBuffer))
 }
 
 #[test]
 fn room_for_a_line() -> Result<(), Fail> {
     let mut short = [0xee; 31];
-    check_eq(line(b"~", 2, &mut short), Err(Refusal::ShortBuffer))?;
-    check_eq(names(&mut short), Err(Refusal::ShortBuffer))?;
+    check(line(b"~", 2, &mut short) == Err(Refusal::ShortBuffer))?;
+    check(names(&mut short) == Err(Refusal::ShortBuffer))?;
     check_eq(&short, &[0xee; 31])?;
     let mut row = [0xee; 32];
-    check_eq(line(b"~", 2, &mut row), Err(Refusal::PlaceBeyond))?;
-    check_eq(line(b"~", 1, &mut row), Ok(0))?;
+    check(line(b"~", 2, &mut row) == Err(Refusal::PlaceBeyond))?;
+    check(line(b"~", 1, &mut row) == Ok(0))?;
     check_eq(&row, &[0xee; 32])?;
-    check_eq(line(b"~~", 0, &mut row), Ok(12))?;
+    check(line(b"~~", 0, &mut row) == Ok(12))?;
     check_eq(&row[0..14], b"1 0 empty -\n\xee\xee")?;
-    check_eq(names(&mut row), Ok(28))?;
+    check(names(&mut row) == Ok(28))?;
     check_eq(&row, b"place bytes verdict command\n\xee\xee\xee\xee")
 }
