@@ -1,4 +1,4 @@
--- A content with its own check bytes leaves one constant, whatever the content. Assumes nothing.
+-- Bytes with their own check bytes leave one constant, whatever the bytes. Assumes nothing.
 use mathlib.Core.Path.{_≡_, refl, sym, ap, _∙_}
 use mathlib.Core.List.{[], _∷_, _++_, append-assoc}
 use Prim.Native.Nat.{ℕ, _/_, _%_, _^_}
@@ -50,11 +50,11 @@ after-high r =
 
 pub own-check : Own-check-leaves-constant
 unfolding registerOf fcs
-own-check content =
-    let r = registerOf content in
-    let low = fcs content % 2 ^ 8 in
-    let high = fcs content / 2 ^ 8 in
-    ap registerOf (sym (append-assoc content (low ∷ []) (high ∷ [])))
-    ∙ folded-push step 0xFFFF (content ++ low ∷ []) high
-    ∙ ap (λ n. step n high) (folded-push step 0xFFFF content low ∙ after-low r)
+own-check bytes =
+    let r = registerOf bytes in
+    let low = fcs bytes % 2 ^ 8 in
+    let high = fcs bytes / 2 ^ 8 in
+    ap registerOf (sym (append-assoc bytes (low ∷ []) (high ∷ [])))
+    ∙ folded-push step 0xFFFF (bytes ++ low ∷ []) high
+    ∙ ap (λ n. step n high) (folded-push step 0xFFFF bytes low ∙ after-low r)
     ∙ after-high r

@@ -9,6 +9,6 @@ use Rattle.fcs.specs.Sum.{registerOf, fcs, checkBytes}
 abbrev pub Nine-digits : Type 0
 Nine-digits = fcs (codes "123456789") ≡ 0x906E
 
--- a content followed by its own check bytes leaves RFC 1662's constant in the register, before the complement
+-- any bytes followed by their own check bytes leave RFC 1662's constant in the register, before the complement
 abbrev pub Own-check-leaves-constant : Type 0
-Own-check-leaves-constant = (content : List ℕ) → registerOf (content ++ checkBytes content) ≡ 0xF0B8
+Own-check-leaves-constant = (bytes : List ℕ) → registerOf (bytes ++ checkBytes bytes) ≡ 0xF0B8

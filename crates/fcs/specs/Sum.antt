@@ -32,9 +32,9 @@ registerOf bytes = folded step 0xFFFF bytes
 unfoldable pub fcs : List ℕ → ℕ
 fcs bytes = bitXor 0xFFFF (registerOf bytes)
 
--- the two check bytes that follow a content on the line: its check sequence, low byte first
+-- the two check bytes that follow bytes on the line: their check sequence, low byte first
 abbrev pub checkBytes : List ℕ → List ℕ
-checkBytes content = fcs content % 2 ^ 8 ∷ fcs content / 2 ^ 8 ∷ []
+checkBytes bytes = fcs bytes % 2 ^ 8 ∷ fcs bytes / 2 ^ 8 ∷ []
 
 -- the rule of RFC 1662's table, at each of its 256 entries
 pub record TableRule (table : List ℕ) : Type 0 where

@@ -12,7 +12,7 @@ fn next(register: u16, byte: u8) -> u16
     (register >> 8) ^ fcs_table()[usize::from(low)]
 }
 
-// The check sequence of a content: the complemented register after all of its bytes.
+// The check sequence of a row of bytes: the complemented register after all of them.
 pub fn fcs16(bytes: &[u8]) -> u16
     ensures value { λ r. ⌜ r ≡ fcs (now (bytes .entry)) ⌝ }
     ensures nine_digits { λ _. ⌜ Nine-digits ⌝ }

@@ -41,4 +41,4 @@ kept-decides : Kept-decides-the-verdict
 kept-decides raw = (decides raw .verdict, decides raw .content)
 
 pub receiver-laws : Receiver-laws
-receiver-laws = record { decides = kept-decides; follows = follows; flag = over-a-flag }
+receiver-laws = record { decides = kept-decides; follows = follows; forgets = over-a-flag }

@@ -23,6 +23,7 @@ pub record Kept : Type 0 where
   pub over : Bool
   pub escapes : Escapes
 
+-- these three together
 abbrev pub kept : List ℕ → Bool → Escapes → Kept
 kept content over escapes = record { content = content; over = over; escapes = escapes }
 
@@ -43,12 +44,13 @@ abbrev pub resolved : List ℕ → Bool → Option ℕ → Kept
 resolved content over None = kept content over Bad
 resolved content over (Some b) = added content over b
 
--- one byte more from the line
+-- one byte more from the line, by how the escapes stand
 abbrev pub after : Escapes → List ℕ → Bool → ℕ → Kept
 after Whole content over b = cond (eqb b escapeByte) (kept content over Half) (added content over b)
 after Half content over b = resolved content over (standsFor b)
 after Bad content over b = kept content over Bad
 
+-- one byte more from the line
 abbrev pub collect : Kept → ℕ → Kept
 collect k b = after (k .escapes) (k .content) (k .over) b
 
@@ -56,6 +58,7 @@ collect k b = after (k .escapes) (k .content) (k .over) b
 unfoldable pub keptOf : List ℕ → Kept
 keptOf raw = folded collect nothing raw
 
+-- every escape so far is right, and none is half read
 abbrev pub isWhole : Escapes → Bool
 isWhole Whole = true
 isWhole Half = false

@@ -15,9 +15,17 @@ flag = 0x7E
 abbrev pub escapeByte : ℕ
 escapeByte = 0x7D
 
+-- what follows the escape byte where the two stand for a flag
+abbrev pub escapedFlag : ℕ
+escapedFlag = 0x5E
+
+-- what follows the escape byte where the two stand for an escape byte
+abbrev pub escapedEscape : ℕ
+escapedEscape = 0x5D
+
 -- one byte of a content as it goes over the line: 7D 5E for the flag, 7D 5D for the escape byte, any other as it is
 abbrev pub escapedByte : ℕ → List ℕ
-escapedByte b = cond (eqb b flag) (escapeByte ∷ 0x5E ∷ []) (cond (eqb b escapeByte) (escapeByte ∷ 0x5D ∷ []) (b ∷ []))
+escapedByte b = cond (eqb b flag) (escapeByte ∷ escapedFlag ∷ []) (cond (eqb b escapeByte) (escapeByte ∷ escapedEscape ∷ []) (b ∷ []))
 
 -- a whole content as it goes over the line
 abbrev pub escaped : List ℕ → List ℕ
@@ -25,7 +33,7 @@ escaped content = joined escapedByte content
 
 -- the byte that 7D and this byte stand for; none where the escape is bad
 abbrev pub standsFor : ℕ → Option ℕ
-standsFor e = cond (eqb e 0x5E) (Some flag) (cond (eqb e 0x5D) (Some escapeByte) None)
+standsFor e = cond (eqb e escapedFlag) (Some flag) (cond (eqb e escapedEscape) (Some escapeByte) None)
 
 -- one byte before the rest of a content; none where either is none
 abbrev pub before : Option ℕ → Option (List ℕ) → Option (List ℕ)

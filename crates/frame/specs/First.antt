@@ -8,6 +8,7 @@ pub record Case (A : Type 0) : Type 0 where
   pub answer : A
 
 infix 4 _⇒_
+-- when this holds, that is the answer
 abbrev pub _⇒_ : {A : Type 0} → Bool → A → Case A
 b ⇒ a = record { when = b; answer = a }
 

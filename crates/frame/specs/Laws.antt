@@ -1,4 +1,4 @@
--- What is promised of frames for every content, beside the bytes that the writer writes. Assumes nothing.
+-- What is promised of frames and of receivers, beside what each call does. Assumes nothing.
 use mathlib.Core.Path.{_≡_}
 use mathlib.Core.List.{List, [], _∷_, _++_}
 use Prim.Native.Nat.{ℕ, _≤_}
@@ -17,9 +17,11 @@ use Rattle.frame.specs.Verdicts.{contentOf, verdictOf}
 abbrev pub FlagFree : List ℕ → Type 0
 FlagFree bytes = All (λ b. b ≡ flag → ⊥) bytes
 
+-- what was escaped is read back as it was
 abbrev pub Unescaping-undoes-escaping : Type 0
 Unescaping-undoes-escaping = (content : List ℕ) → unescaped (escaped content) ≡ Some content
 
+-- so a flag in a frame can only be one of its two ends
 abbrev pub Escaped-holds-no-flag : Type 0
 Escaped-holds-no-flag = (content : List ℕ) → FlagFree (escaped content)
 
@@ -35,10 +37,11 @@ pub record Comes-back (message : List ℕ) (before : Line) : Type 0 where
 abbrev pub Frames-come-back : Type 0
 Frames-come-back = (message : List ℕ) → 3 ≤ length message → length message ≤ 123 → (before : Line) → Comes-back message before
 
+-- no two messages have one frame
 abbrev pub Equal-frames-have-equal-messages : Type 0
 Equal-frames-have-equal-messages = (m n : List ℕ) → frameOf m ≡ frameOf n → m ≡ n
 
--- all of these
+-- the laws of frames
 pub record Frame-laws : Type 0 where
   pub undone : Unescaping-undoes-escaping
   pub flag-free : Escaped-holds-no-flag
@@ -57,8 +60,8 @@ Receiver-follows-the-line = (line : Line) (bytes : List ℕ) → folded hearOn (
 abbrev pub Nothing-is-carried-over-a-flag : Type 0
 Nothing-is-carried-over-a-flag = (line other : Line) (bytes : List ℕ) → heard line (flag ∷ bytes) ≡ heard other (flag ∷ bytes)
 
--- all of these
+-- the laws of a receiver
 pub record Receiver-laws : Type 0 where
   pub decides : Kept-decides-the-verdict
   pub follows : Receiver-follows-the-line
-  pub flag : Nothing-is-carried-over-a-flag
+  pub forgets : Nothing-is-carried-over-a-flag

@@ -37,6 +37,7 @@ pub record Hearing : Type 0 where
   pub waits : Bool
   pub kept : Kept
 
+-- what this receiver keeps
 abbrev pub hearing : Receiver → Hearing
 hearing r = record { waits = r .waiting; kept = keptBy (r .piece) }
 

@@ -31,7 +31,7 @@ carried content = getD content (length content - 2) 0 + getD content (length con
 abbrev pub due : List ℕ → ℕ
 due content = fcs (take (length content - 2) content)
 
--- the first verdict that fits: whether there is no byte, whether an escape is bad, whether the content is too long, and the content
+-- the first verdict that fits, by whether there is no byte, whether an escape is bad, whether the content is too long, and the content itself
 abbrev pub verdictBy : Bool → Bool → Bool → List ℕ → Verdict
 verdictBy none bad over content =
     firstOf

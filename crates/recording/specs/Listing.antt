@@ -23,9 +23,11 @@ use Rattle.recording.specs.Statuses.{labelName}
 abbrev pub room : ℕ
 room = 32
 
+-- stands between two fields
 abbrev pub space : ℕ
 space = 0x20
 
+-- ends a line
 abbrev pub lineFeed : ℕ
 lineFeed = 0x0A
 
@@ -47,11 +49,11 @@ lineOf label piece =
 abbrev pub namesLine : List ℕ
 namesLine = field (codes "place bytes verdict command") lineFeed
 
--- the text for an answer: nothing at the end
+-- the text for a status and what was found: nothing at the end
 abbrev pub textOf : Status → Located → Result (List ℕ) Refusal
-textOf (Refused refusal) answer = Err refusal
-textOf End answer = Ok []
-textOf (Piece label) answer = Ok (lineOf label answer)
+textOf (Refused refusal) found = Err refusal
+textOf End found = Ok []
+textOf (Piece label) found = Ok (lineOf label found)
 
 -- the text for a place
 abbrev pub lineAt : List ℕ → ℕ → Result (List ℕ) Refusal
@@ -76,6 +78,6 @@ abbrev pub orNothing : Result (List ℕ) Refusal → List ℕ
 orNothing (Ok text) = text
 orNothing (Err refusal) = []
 
--- the line for an answer: only a piece has one
+-- the line for what was found: only a piece has one
 abbrev pub lineFor : Located → List ℕ
-lineFor answer = orNothing (textOf (answer .status) answer)
+lineFor found = orNothing (textOf (found .status) found)

@@ -97,7 +97,7 @@ runAt bytes start = record {
   command = commandIn (statusOf (length bytes) start (runFrom bytes start)) (runFrom bytes start);
 }
 
--- the first answer that fits
+-- what a place speaks of: the first that fits
 unfoldable pub pieceAt : List ℕ → ℕ → Located
 pieceAt bytes place =
     firstOf
@@ -116,10 +116,11 @@ onward (Refused r) next = None
 onward End next = None
 onward (Piece label) next = Some next
 
+-- where what was found goes on
 abbrev pub onwardFrom : Located → Option ℕ
-onwardFrom answer = onward (answer .status) (answer .next)
+onwardFrom found = onward (found .status) (found .next)
 
--- the answers of calls made one after another, each at the place that the one before gave, as long as pieces come: at most so many
+-- the pieces that calls made one after another give, each at the place that the one before gave: at most so many of them
 unfoldable pub piecesFrom : ℕ → List ℕ → ℕ → List Located
 piecesFrom zero bytes place = []
 piecesFrom (suc n) bytes place =

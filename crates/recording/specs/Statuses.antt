@@ -10,11 +10,13 @@ use Rattle.recording.specs.declared.status.Refusal.the-variants.{ShortBuffer, 
 use Rattle.recording.specs.declared.status.Status.{Status}
 use Rattle.recording.specs.declared.status.Status.the-variants.{Refused, End, Piece}
 
+-- the number of each refusal
 abbrev pub refusalNumber : Refusal → ℕ
 refusalNumber ShortBuffer = 201
 refusalNumber LongRecording = 202
 refusalNumber PlaceBeyond = 203
 
+-- the number of each label: the verdicts in the order in which they are tried, then the two of a run that no flag closes or opens
 abbrev pub labelNumber : Label → ℕ
 labelNumber (Closed Empty) = 1
 labelNumber (Closed Escape) = 2
@@ -25,6 +27,7 @@ labelNumber (Closed Good) = 6
 labelNumber Open = 7
 labelNumber Stray = 8
 
+-- the number of each status: 0 where nothing is left
 abbrev pub statusNumber : Status → ℕ
 statusNumber End = 0
 statusNumber (Piece label) = labelNumber label
