@@ -1,4 +1,6 @@
 // Frames on the line: flags, escapes, the check sequence, and the verdict on what stands between two flags.
+#![tactic(auto)]
+
 pub mod collector;
 mod content;
 pub mod receiver;

@@ -1,4 +1,6 @@
 // Rows of keyed records: what a record's key is, and the one search for the last record with a key.
+#![tactic(auto)]
+
 ghost use Rattle.std.specs.Prelude.{◌≡◌, ℕ, ◌<◌, map, length, IfSome, slice_index_or};
 ghost use Rattle.std.specs.Option.{option_map};
 ghost use Rattle.keyed.specs.Keys.{Search, last_index, last_of};

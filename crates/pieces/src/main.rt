@@ -1,4 +1,6 @@
 // Lists a recorded line, read from standard input, piece by piece.
+#![tactic(auto)]
+
 ghost use Rattle.std.specs.Prelude.{◌≤◌, length, IfOk};
 
 mod listing;

@@ -1,2 +1,4 @@
 // A service value: its fields, its bytes on the line, and its rule.
+#![tactic(auto)]
+
 pub mod value;

@@ -1,4 +1,6 @@
 // Stores of the settings' values: what every store does, the two that there are, and two side by side.
+#![tactic(auto)]
+
 pub mod interface;
 pub mod log;
 pub mod operation;

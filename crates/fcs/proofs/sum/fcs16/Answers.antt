@@ -10,7 +10,7 @@ use Rattle.fcs.proofs.sum.fcs16.Goals as goal
 pub loop-byte-preserved : goal.loop-byte-preserved
 loop-byte-preserved c =
     let more = fold_more step 0xFFFF c.args.bytes.now c.loop-byte.byte-index 0 c.loop-byte-test.true in
-    (c.next-register.type-inv, cc)
+    (c.next-register.type_inv, cc)
 
 pub returns : goal.returns
 unfolding register_of fcs

@@ -10,5 +10,5 @@ returns c =
     let register = c.args.register in
     let mixed = bit_xor register c.args.byte in
     let low = c.from-2.ensures ∙ ap (λ b. lib.Bits.bit_and (bit_xor register b) 255) c.from.ensures ∙ and_mask mixed 8 in
-    let entry = c.fcs-table.ensures.entry (mixed % 256) (mod_below mixed 256 (omega arith)) in
-    step_table register c.args.byte _ (omega arith) (ap (λ k. get_or c.fcs-table.result.now k 0) low ∙ entry)
+    let entry = c.fcs_table.ensures.entry (mixed % 256) (mod_below mixed 256 (omega arith)) in
+    step_table register c.args.byte _ (omega arith) (ap (λ k. get_or c.fcs_table.result.now k 0) low ∙ entry)
