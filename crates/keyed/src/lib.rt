@@ -16,10 +16,10 @@ pub trait Keyed {
 
 // The index of the last record with this key, or none where no record has it.
 pub fn last_with<R: Keyed>(records: &[R], wanted: usize) -> Option<usize>
-    ensures index { result ≡ last_index (map key records.now) wanted }
-    ensures last { Search (map key records.now) wanted result }
+    ensures index { result ≡ last_index (map R.key records.now) wanted }
+    ensures last { Search (map R.key records.now) wanted result }
     ensures within { IfSome result (λ i. i < length records.now) }
-    ensures record_found { (d : R) → option_map (λ i. slice_index_or records.now i d) result ≡ last_of key wanted records.now }
+    ensures record_found { (d : R) → option_map (λ i. slice_index_or records.now i d) result ≡ last_of R.key wanted records.now }
 {
     for i in (0..records.len()).rev() {
         if records[i].key() == wanted {

@@ -6,8 +6,8 @@ use Rattle.frame.proofs.Escaping.{plain_byte}
 use Rattle.frame.proofs.Writes.{written_byte}
 use Rattle.frame.proofs.writer.put_byte.Goals as goal
 
-pub returns-in-default : goal.returns-in-default
-returns-in-default c =
+pub returns-in_default : goal.returns-in_default
+returns-in_default c =
     let plain : escaped_byte c.args.byte ≡ c.args.byte ∷ [] = plain_byte c.args.byte (search rules) (search rules) in
     record {
       place = ap (λ l. c.args.at + length l) (sym plain);

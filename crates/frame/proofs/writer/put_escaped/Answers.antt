@@ -9,8 +9,8 @@ use Rattle.frame.proofs.writer.put_escaped.Goals as goal
 pub loop-byte-init : goal.loop-byte-init
 loop-byte-init c = (sym (add-zero c.args.at), sym (written_nothing c.args.out.now c.args.at))
 
-pub put-byte-place-requires : goal.put-byte-place-requires
-put-byte-place-requires c =
+pub put_byte-place-requires : goal.put_byte-place-requires
+put_byte-place-requires c =
     let bytes = c.args.bytes.now in
     let i = c.loop-byte.byte-index in
     let more = ap length (escaped_more bytes i c.loop-byte-test.true) ∙ length-append (escaped (take i bytes)) (escaped_byte (get_or bytes i 0)) in
@@ -26,8 +26,8 @@ loop-byte-preserved c =
     let long = ap length more ∙ length-append front byte in
     let place = c.loop-byte.invariant.0 in
     let joined = written_more c.args.out.now c.args.at front byte (omega (arith, c.requires)) in (
-      omega (arith, c.put-byte-place.ensures.place, place, long),
-      c.put-byte-place.ensures.bytes
+      omega (arith, c.put_byte-place.ensures.place, place, long),
+      c.put_byte-place.ensures.bytes
           ∙ (λ k. written (c.loop-byte.invariant.1 k) (place k) byte)
           ∙ joined
           ∙ ap (written c.args.out.now c.args.at) (sym more),

@@ -26,6 +26,6 @@ returns c =
     record {
       next = goes_on here count c.piece-next.result.2 c.if-count-eq0.false c.piece-next.ensures.next told;
       text =
-          pushed {was = vec_items c.args.text.now} (take (count - 0) c.line.new.out) refl c.in-ok-extend-from-slice.was c.extend-from-slice.ensures.items
+          pushed {was = vec_items c.args.text.now} (take (count - 0) c.line.new.out) refl c.in_ok-extend_from_slice.was c.extend_from_slice.ensures.items
           ∙ ap (λ l. vec_items c.args.text.now ++ l) (front_written _ _ (line_for here) count row (count_told here.status here count told));
     }

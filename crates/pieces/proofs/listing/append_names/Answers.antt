@@ -6,7 +6,7 @@ use Rattle.recording.proofs.Fields.{front_written}
 use Rattle.pieces.proofs.Lists.{same_count}
 use Rattle.pieces.proofs.listing.append_names.Goals as goal
 
-pub returns-in-ok-extend-from-slice : goal.returns-in-ok-extend-from-slice
-returns-in-ok-extend-from-slice c =
-    pushed {was = vec_items c.args.text.now} (take (c.in-Ok.count - 0) c.names.new.out) refl c.in-ok-extend-from-slice.was c.extend-from-slice.ensures.items
+pub returns-in_ok-extend_from_slice : goal.returns-in_ok-extend_from_slice
+returns-in_ok-extend_from_slice c =
+    pushed {was = vec_items c.args.text.now} (take (c.in-Ok.count - 0) c.names.new.out) refl c.in_ok-extend_from_slice.was c.extend_from_slice.ensures.items
     ∙ ap (λ l. vec_items c.args.text.now ++ l) (front_written _ _ names_line c.in-Ok.count c.names.ensures.bytes (same_count c.in-Ok.count 28 c.in-Ok.ensures.count))

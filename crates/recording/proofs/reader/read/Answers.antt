@@ -14,8 +14,8 @@ returns-then-place-recording c = search rules
 
 pub returns : goal.returns
 returns c =
-    let start = c.start-at-start in
-    let stop = c.flag-from-end in
+    let start = c.start_at-start in
+    let stop = c.flag_from-end in
     put_together c.args.recording.now c.args.place start.result stop.result c.min-next.result _ _ _
     start.ensures.value stop.ensures.run stop.ensures.value c.min-next.ensures
     c.judge-status.ensures.status c.judge-status.ensures.command

@@ -5,5 +5,5 @@ use Rattle.recording.proofs.writing.put_field.Goals as goal
 pub returns : goal.returns
 returns c = record {
   place = past_field c.args.at c.args.text.now c.args.after;
-  bytes = text_then c.args.out.now c.args.at c.args.text.now c.copy-from-slice.new.self c.args.after c.copy-from-slice.ensures.after c.requires;
+  bytes = text_then c.args.out.now c.args.at c.args.text.now c.copy_from_slice.new.self c.args.after c.copy_from_slice.ensures.after c.requires;
 }

@@ -5,7 +5,7 @@ use Rattle.recording.proofs.writing.put_number.Goals as goal
 
 pub returns : goal.returns
 returns c =
-    let told = c.put-decimal-at.ensures in
+    let told = c.put_decimal-at.ensures in
     record {
       place = ap (λ n. n + 1) told.place ∙ past_field c.args.at (decimal c.args.number) c.args.after;
       bytes = (λ i. set (told.bytes i) (told.place i) c.args.after) ∙ after_text c.args.out.now c.args.at (decimal c.args.number) c.args.after c.requires;

@@ -5,7 +5,7 @@ use Rattle.store.specs.declared.operation.Operation.{Operation}
 use Rattle.store.specs.Operations.{answers, after_all}
 use Rattle.store.proofs.Runs.{means_more, mark_more, mark_then, mark_else, store_laws}
 use Rattle.store.proofs.operation.agree.Goals as goal
-use Rattle.store.proofs.operation.agree.Goals.{then-not-answer-alike, else-not-answer-alike}
+use Rattle.store.proofs.operation.agree.Goals.{then-not-answer_alike, else-not-answer_alike}
 
 pub loop-operation-init : goal.loop-operation-init
 unfolding answers
@@ -19,16 +19,16 @@ loop-operation-preserved g c =
     let i = c.loop-operation.operation-index in
     let o = c.operation-item.result in
     let inv = c.loop-operation.invariant in
-    let step = c.answer-alike.ensures in
+    let step = c.answer_alike.ensures in
     let within = c.loop-operation-test.true in
     let here = c.operation-item.is in
-    let mark : c.if-not-answer-alike.alike ≡ cond c.answer-alike.result c.loop-operation.alike false = elim c.if-not-answer-alike.branch [
-      | then-not-answer-alike w ↦ mark_then c.answer-alike.result c.loop-operation.alike c.if-not-answer-alike.alike w.alike_is w.if-not-answer-alike.true
-      | else-not-answer-alike w ↦ mark_else c.answer-alike.result c.loop-operation.alike c.if-not-answer-alike.alike w.alike_is w.if-not-answer-alike.false
+    let mark : c.if-not-answer_alike.alike ≡ cond c.answer_alike.result c.loop-operation.alike false = elim c.if-not-answer_alike.branch [
+      | then-not-answer_alike w ↦ mark_then c.answer_alike.result c.loop-operation.alike c.if-not-answer_alike.alike w.alike_is w.if-not-answer_alike.true
+      | else-not-answer_alike w ↦ mark_else c.answer_alike.result c.loop-operation.alike c.if-not-answer_alike.alike w.alike_is w.if-not-answer_alike.false
     ] in (
-      means_more x y all i o within here x (g.X.Store.places c.loop-operation.x).values (g.X.Store.places c.answer-alike.new.x).values inv.0 step.x_after,
-      means_more x y all i o within here y (g.Y.Store.places c.loop-operation.y).values (g.Y.Store.places c.answer-alike.new.y).values inv.1 step.y_after,
-      mark_more x y all i o within here (g.X.Store.places c.loop-operation.x).values (g.Y.Store.places c.loop-operation.y).values c.loop-operation.alike c.answer-alike.result c.if-not-answer-alike.alike inv.0 inv.1 inv.2 step.answers mark,
+      means_more x y all i o within here x (g.X.Store.places c.loop-operation.x).values (g.X.Store.places c.answer_alike.new.x).values inv.0 step.x_after,
+      means_more x y all i o within here y (g.Y.Store.places c.loop-operation.y).values (g.Y.Store.places c.answer_alike.new.y).values inv.1 step.y_after,
+      mark_more x y all i o within here (g.X.Store.places c.loop-operation.x).values (g.Y.Store.places c.loop-operation.y).values c.loop-operation.alike c.answer_alike.result c.if-not-answer_alike.alike inv.0 inv.1 inv.2 step.answers mark,
     )
 
 pub returns : goal.returns

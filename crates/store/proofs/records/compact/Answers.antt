@@ -25,7 +25,7 @@ loop-place-preserved c =
           (omega (arith, w.count_is, inv.0), w.count_is ∙ turn.0, w.row_is ∙ turn.1)
           )
       | in-default w ↦ (
-          let turn = turn_none full c.loop-place.row place count inv.1 inv.2 w.in-default.ensures in
+          let turn = turn_none full c.loop-place.row place count inv.1 inv.2 w.in_default.ensures in
           (omega (arith, w.count_is, inv.0), w.count_is ∙ turn.0, w.row_is ∙ turn.1)
           )
     ]

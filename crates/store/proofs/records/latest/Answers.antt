@@ -5,7 +5,7 @@ use Rattle.std.specs.Option.{option_map}
 use Rattle.store.specs.declared.records.Record.{Record}
 use Rattle.store.proofs.records.latest.Goals as goal
 
-pub returns-in-err-i : goal.returns-in-err-i
-returns-in-err-i c =
-    ap (option_map ((λ x. x.now) {X = Record})) c.from-residual.ensures
-    ∙ sym (last_none (λ (r : Record). r.place) c.args.place c.args.records.now c.in-err-i.ensures.last)
+pub returns-in_err-i : goal.returns-in_err-i
+returns-in_err-i c =
+    ap (option_map ((λ x. x.now) {X = Record})) c.from_residual.ensures
+    ∙ sym (last_none (λ (r : Record). r.place) c.args.place c.args.records.now c.in_err-i.ensures.last)

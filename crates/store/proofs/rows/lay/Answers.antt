@@ -12,5 +12,5 @@ returns c =
     let count : c.width-width.result - 0 ≡ width place = omega (arith, c.width-width.ensures) in
     record {
       width = search rules;
-      row = laid_front place c.args.held.now c.args.row.now c.copy-from-slice.new.self (c.width-width.result - 0) long count c.copy-from-slice.ensures.after;
+      row = laid_front place c.args.held.now c.args.row.now c.copy_from_slice.new.self (c.width-width.result - 0) long count c.copy_from_slice.ensures.after;
     }

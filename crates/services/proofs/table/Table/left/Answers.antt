@@ -8,8 +8,8 @@ use Rattle.services.proofs.Placing.{counted_sound}
 use Rattle.services.proofs.table.Table.left.Goals as goal
 use Rattle.services.proofs.table.Table.left.Goals.{in-Free, in-default}
 
-pub overflow-add-free : goal.overflow-add-free
-overflow-add-free c =
+pub overflow_add-free : goal.overflow_add-free
+overflow_add-free c =
     let es = c.args.self.now.entries in
     let i = c.loop-entry.entry-index in
     let few = count_by-le-length is_free (take i es) in
@@ -23,7 +23,7 @@ loop-entry-preserved c =
     let within : i < length es = let whole = c.args.self.now.sound.0 in omega arith in
     elim c.match-entry.branch [
       | in-Free w ↦ let more = count_by_more_yes is_free es i Free within (ap is_free w.in-Free.is) in omega (arith, w.free_is)
-      | in-default w ↦ let same = count_by_more_no is_free es i Free within (ap is_free w.in-default.is) in omega (arith, w.free_is)
+      | in-default w ↦ let same = count_by_more_no is_free es i Free within (ap is_free w.in_default.is) in omega (arith, w.free_is)
     ]
 
 pub returns : goal.returns

@@ -7,8 +7,8 @@ use Rattle.services.proofs.Reading.{held_id}
 use Rattle.services.proofs.Staying.{in_own_entry, in_free_entry, in_no_entry}
 use Rattle.services.proofs.table.Table.place.Goals as goal
 
-pub invariant-of-self : goal.invariant-of-self
-invariant-of-self c = (sound_known c.args.self.now.entries c.in-Some.at c.args.service c.args.self.now.sound c.requires c.in-Some.ensures.last, tt)
+pub invariant_of-self : goal.invariant_of-self
+invariant_of-self c = (sound_known c.args.self.now.entries c.in-Some.at c.args.service c.args.self.now.sound c.requires c.in-Some.ensures.last, tt)
 
 pub returns-in-Some : goal.returns-in-Some
 returns-in-Some c =
@@ -19,15 +19,15 @@ returns-in-Some c =
     let room = room_known table.entries c.in-Some.at service table.sound is_id last in
     record { answer = sym (cond-false _ _ _ room); after = placed_known table.entries c.in-Some.at service is_id last ∙ sym (cond-false _ _ _ room); in_place = in_own_entry table.entries c.in-Some.at service table.sound is_id last }
 
-pub invariant-of-self-in-Some-find : goal.invariant-of-self-in-Some-find
-invariant-of-self-in-Some-find c =
-    (sound_new c.args.self.now.entries c.in-Some-find.at c.args.service c.args.self.now.sound c.requires c.in-default.ensures.last c.in-Some-find.ensures.last, tt)
+pub invariant_of-self-in-Some-find : goal.invariant_of-self-in-Some-find
+invariant_of-self-in-Some-find c =
+    (sound_new c.args.self.now.entries c.in-Some-find.at c.args.service c.args.self.now.sound c.requires c.in_default.ensures.last c.in-Some-find.ensures.last, tt)
 
 pub returns-in-Some-find : goal.returns-in-Some-find
 returns-in-Some-find c =
     let table = c.args.self.now in
     let service = c.args.service in
-    let none = c.in-default.ensures.last in
+    let none = c.in_default.ensures.last in
     let free = c.in-Some-find.ensures.last in
     let is_id = held_id service c.requires in
     let room = room_new table.entries c.in-Some-find.at service table.sound is_id none free in
@@ -37,5 +37,5 @@ pub returns : goal.returns
 returns c =
     let table = c.args.self.now in
     let service = c.args.service in
-    let full = no_room table.entries service table.sound (held_id service c.requires) c.in-default.ensures.last c.in-default-find.ensures.last in
-    record { answer = sym (cond-true _ _ _ full); after = sym (cond-true _ _ _ full); in_place = in_no_entry table.entries service c.in-default.ensures.last }
+    let full = no_room table.entries service table.sound (held_id service c.requires) c.in_default.ensures.last c.in_default-find.ensures.last in
+    record { answer = sym (cond-true _ _ _ full); after = sym (cond-true _ _ _ full); in_place = in_no_entry table.entries service c.in_default.ensures.last }

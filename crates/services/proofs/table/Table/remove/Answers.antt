@@ -9,8 +9,8 @@ use Rattle.services.proofs.Reading.{none_taken}
 use Rattle.services.proofs.Staying.{others_set}
 use Rattle.services.proofs.table.Table.remove.Goals as goal
 
-pub invariant-of-self : goal.invariant-of-self
-invariant-of-self c =
+pub invariant_of-self : goal.invariant_of-self
+invariant_of-self c =
     let table = c.args.self.now in
     (sound_freed table.entries c.in-Some.at table.sound (has_within key_in table.entries c.args.id c.in-Some.at c.in-Some.ensures.last.has), tt)
 
@@ -22,10 +22,10 @@ returns-in-Some c =
       others = others_set table.entries c.in-Some.at Free c.args.id c.in-Some.ensures.last.has;
     }
 
-pub returns-in-default : goal.returns-in-default
-returns-in-default c =
+pub returns-in_default : goal.returns-in_default
+returns-in_default c =
     let table = c.args.self.now in
     record {
-      after = sym (none_taken table.entries c.args.id c.requires (read_none table.entries c.args.id c.in-default.ensures.last));
+      after = sym (none_taken table.entries c.args.id c.requires (read_none table.entries c.args.id c.in_default.ensures.last));
       others = λ i t here other. here;
     }
