@@ -25,29 +25,29 @@ Values-fit-a-row Worked-listing Writing-undoes-reading now-alike
 
 # Definitions, lemmas, fields and local names: an inner capital becomes an underscore and a small letter, a dash an underscore.
 WORDS = """
-All-ids accepted-taken after-high after-long after-low after-wipe afterAll afterAll-long afterBy alike-is alike-more answerBy answerTo appended-full
+All-ids accepted-taken after-high after-long after-low after-wipe afterAll afterAll-long afterBy alike-more answerBy answerTo appended-full
 appended-room appended-writes as-at-first at-end bad-stays before-some bigEndian bit-cases bitStep bitStep-even body-undone byte-back byte-free
-carried-own checkBytes closes-frame closingFlag come-back commandIn commandOf commandText contentOf count-is count-told counted-sound counting-push
+carried-own checkBytes closes-frame closingFlag come-back commandIn commandOf commandText contentOf count-told counted-sound counting-push
 covers-all destination-fits distinct-by distinct-rest div-small domain-fits due-own e-command e-next e-raw e-start e-status e-stop eightSteps
 eightSteps-high eightSteps-split either-log empty-log ends-here escapeByte escaped-front escaped-more escapedByte escapedEscape escapedFlag
 fields-length filled-full filled-room first-none fits-frame fitsInto five-digits flag-after flag-free flag-opens flags-fit flags-out flagsFit
-found-either found-rightful fourth-at frame-laws frame-length frame-open frame-parts free-before free-is free-key free-or-none free-run from-here
+found-either found-rightful fourth-at frame-laws frame-length frame-open frame-parts free-before free-key free-or-none free-run from-here
 front-some front-written full-exactly full-tests good-body good-content good-whole has-elsewhere hearOn hearingOf held-before held-id held-key
 holds-none holds-some i-other i-there id-at id-fits in-free-entry in-no-entry in-own-entry index-either index-found index-has index-here index-none
 is-id isDeletion isFree isFull j-other j-there judgedBy judges-at keepsRule kept-decides keptBy keptOf keptOf-none keptOf-push key-at key-of-either
 key-of-own keyIn labelName labelNumber laid-again laid-front laid-push last-push last-stands last-write lastIndex latestEach latestOf latestOfFirst
 lawful-rest leading-flag length-value line-some lineFeed list-wiped listingOf log-laws logPlaces long-es long-fs long-set mark-else mark-more
 mark-then may-be may-be-rightful mayBeHeld means-more mod-small mod-twice more-alike more-told namesLine never-held next-call next-is nine-digits
-no-id no-id-here no-line-text no-more-held no-refusal none-anywhere none-at none-at-end none-held none-is-free none-taken not-refused not-true
+no-id no-id-here no-line-text no-more-held no-refusal none-anywhere none-at none-at-end none-held none-is-free none-taken not-refused
 not-whole nothing-more nothingHeld now-there nth-set-other nth-set-same number-back of-run one-byte-more one-escaped one-less-held one-more-at
 one-more-held one-there only-first onward-at onwardFrom or-false or-none or-true orNothing others-set over-a-flag own-check own-place pair-first
 pass-by passed-at passed-by passedOver past-field piece-content piece-more piece-none piece-small piece-verdict piecesFrom placeCount placed-known
 placed-new plain-first put-together q-id reach-end reach-flag reach-plain read-any read-tells readIn readInto reads-decide receiver-laws record-found
-recordOf recordsOf refusalNumber refused-listing refused-same refusedAt refusedLine registerOf rest-none room-known room-new row-is row-wide
+recordOf recordsOf refusalNumber refused-listing refused-same refusedAt refusedLine registerOf rest-none room-known room-new row-wide
 rule-exactly rule-id rule-test run-free run-free-at run-within same-messages search-index serviceFound serviceIn serviceOf services-but services-same
 servicesIn set-taken settingAt settings-laws six-letters slotPlaces some-free some-held sound-freed sound-known sound-new split-run stands-either
 start-stays start-within statusNumber statusOf stays-right step-table stop-run stop-value stop-within store-laws tables-right take-up taken-by
-text-then text-told three-digits time-fits told-held told-row turn-none turn-some unlessRefused value-by value-front valueIn values-all values-wide
+text-then text-told three-digits time-fits turn-none turn-some unlessRefused value-by value-front valueIn values-all values-wide
 valuesBy verdictAt verdictBy verdictFor verdictOf were-alike while-open while-waiting without-key worked-listing write-fields write-parts written-more
 written-nothing written-pair x-after xor-back xor-swap y-after zero-time
 """.split()

@@ -2,7 +2,7 @@
 use Rattle.std.proofs.Common.{◌≡◌, ℕ, ◌+◌, ◌<◌, ◌≤◌, Bool, true, false, cond, not, List, length, get_or, set, is_some, Some, None, Option, sym, refl, ap, ◌∙◌, ⊎_elim, arith}
 use Rattle.std.proofs.lemmas.List.{length-set, get_or-set_same, get_or-set_other, get_or-replicate, get_or_past, set-set}
 use Rattle.std.proofs.lemmas.List.Sums.{sum_by-set}
-use Rattle.std.proofs.lemmas.Bool.{and_parts, not_true, eqb-false, cases_eq, cases_lt}
+use Rattle.std.proofs.lemmas.Bool.{and_parts, not-true, eqb-false, cases_eq, cases_lt}
 use Rattle.keyed.specs.Keys.{last_of}
 use Rattle.keyed.proofs.Latest.{last_has, last_stands}
 use Rattle.services.specs.declared.entry.Entry.{Entry}
@@ -23,7 +23,7 @@ use Rattle.services.proofs.Reading.{rule_id, length-services, read_any}
 may_be_rightful : (s : Service) (id : ℕ) → s.id ≡ id → may_be_held s ≡ true → Rightful id s
 may_be_rightful s id same may =
     let parts = and_parts (keeps_rule s) (not (is_deletion s)) may in
-    record { same_id = same; rule = parts.0; lasting = eqb-false s.time 0 (not_true (is_deletion s) parts.1) }
+    record { same_id = same; rule = parts.0; lasting = eqb-false s.time 0 (not-true (is_deletion s) parts.1) }
 
 found_rightful : (es : List Entry) (id : ℕ) (s : Service) (o : Option Entry) → Sound es → last_of key_in id es ≡ o → service_found o ≡ Some s → Rightful id s
 found_rightful es id s None sound is reads = let z : ◌≡◌ {A = ℕ} 0 1 = cc in absurd (omega arith)

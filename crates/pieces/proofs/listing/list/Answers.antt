@@ -44,7 +44,7 @@ returns-in_default-2 c =
     let status = ap (λ (l : Located). l.status) c.read.ensures in
     record {
       text =
-          no_line bytes c.loop-turn.place (length bytes - c.loop-turn.-turn) (vec_items c.loop-turn.text) (vec_items c.append_line.new.text) (names_line ++ flat_map line_for (pieces_of bytes)) (sym c.in_default-2.is ∙ told.next) told.text c.loop-turn.invariant
+          no_line bytes c.loop-turn.place (length bytes - c.loop-turn._turn) (vec_items c.loop-turn.text) (vec_items c.append_line.new.text) (names_line ++ flat_map line_for (pieces_of bytes)) (sym c.in_default-2.is ∙ told.next) told.text c.loop-turn.invariant
           ∙ sym (listed bytes (λ refusal is. c.in_default.not-Refused refusal (status ∙ is)));
       worked = worked_listing;
     }
@@ -52,7 +52,7 @@ returns-in_default-2 c =
 pub loop-turn-preserved : goal.loop-turn-preserved
 loop-turn-preserved c =
     let bytes = c.args.recording.now in
-    let turn = c.loop-turn.-turn in
+    let turn = c.loop-turn._turn in
     let told = c.in_ok-next.ensures in
     let less : length bytes - turn ≡ suc (length bytes - (turn + 1)) = omega (arith, c.loop-turn-test.true) in
     one_line bytes c.loop-turn.place (length bytes - turn) (length bytes - (turn + 1)) c.in-Some.next (vec_items c.loop-turn.text) (vec_items c.append_line.new.text) (names_line ++ flat_map line_for (pieces_of bytes)) less (sym c.in-Some.is ∙ told.next) told.text c.loop-turn.invariant
@@ -60,11 +60,11 @@ loop-turn-preserved c =
 pub returns : goal.returns
 returns c =
     let bytes = c.args.recording.now in
-    let none : length bytes - c.loop-turn.-turn ≡ 0 = omega (arith, c.loop-turn-test.false) in
+    let none : length bytes - c.loop-turn._turn ≡ 0 = omega (arith, c.loop-turn-test.false) in
     let status = ap (λ (l : Located). l.status) c.read.ensures in
     record {
       text =
-          all_lines bytes c.loop-turn.place (length bytes - c.loop-turn.-turn) (vec_items c.loop-turn.text) (names_line ++ flat_map line_for (pieces_of bytes)) none c.loop-turn.invariant
+          all_lines bytes c.loop-turn.place (length bytes - c.loop-turn._turn) (vec_items c.loop-turn.text) (names_line ++ flat_map line_for (pieces_of bytes)) none c.loop-turn.invariant
           ∙ sym (listed bytes (λ refusal is. c.in_default.not-Refused refusal (status ∙ is)));
       worked = worked_listing;
     }

@@ -7,5 +7,5 @@ use Rattle.pieces.proofs.listing.list.Given as goal
 
 abbrev pub invariant-loop-turn : goal.invariant-loop-turn
 invariant-loop-turn l =
-    vec_items l.text ++ flat_map line_for (pieces_from (length l.recording - l.-turn) l.recording l.place)
+    vec_items l.text ++ flat_map line_for (pieces_from (length l.recording - l._turn) l.recording l.place)
     ≡ names_line ++ flat_map line_for (pieces_of l.recording)

@@ -23,8 +23,8 @@ loop-operation-preserved g c =
     let within = c.loop-operation-test.true in
     let here = c.operation-item.is in
     let mark : c.if-not-answer_alike.alike ≡ cond c.answer_alike.result c.loop-operation.alike false = elim c.if-not-answer_alike.branch [
-      | then-not-answer_alike w ↦ mark_then c.answer_alike.result c.loop-operation.alike c.if-not-answer_alike.alike w.alike_is w.if-not-answer_alike.true
-      | else-not-answer_alike w ↦ mark_else c.answer_alike.result c.loop-operation.alike c.if-not-answer_alike.alike w.alike_is w.if-not-answer_alike.false
+      | then-not-answer_alike w ↦ mark_then c.answer_alike.result c.loop-operation.alike c.if-not-answer_alike.alike w.alike-is w.if-not-answer_alike.true
+      | else-not-answer_alike w ↦ mark_else c.answer_alike.result c.loop-operation.alike c.if-not-answer_alike.alike w.alike-is w.if-not-answer_alike.false
     ] in (
       means_more x y all i o within here x (g.X.Store.places c.loop-operation.x).values (g.X.Store.places c.answer_alike.new.x).values inv.0 step.x_after,
       means_more x y all i o within here y (g.Y.Store.places c.loop-operation.y).values (g.Y.Store.places c.answer_alike.new.y).values inv.1 step.y_after,

@@ -1,16 +1,18 @@
 -- What the search leaves to show of `read_alike`.
-use Rattle.std.proofs.Common.{◌≡◌, ℕ, true, false, replicate, Some, None, Decides, Option, refl, ap, arith, MatchOption}
+use Rattle.std.proofs.Common.{◌≡◌, ◌==◌, ℕ, true, replicate, Some, None, Option, sym, refl, ap, arith}
+use Rattle.std.proofs.lemmas.Bool.{eqb-true}
+use Rattle.std.proofs.lemmas.Bool.Decides.{Decides-eqb}
 use Rattle.std.proofs.lemmas.Slice.Eq.{slice_eq-Decides}
+use Rattle.std.specs.Option.{option_eq}
 use Rattle.settings.specs.Settings.{widest}
 use Rattle.store.proofs.Runs.{reads_decide}
 use Rattle.store.proofs.operation.read_alike.Goals as goal
-use Rattle.std.proofs.lemmas.Bool.Decides.{Decides-eqb}
 
-same_width : (o p : Option ℕ) → MatchOption o (MatchOption p (true ≡ true) (λ x. true ≡ false)) (λ x. MatchOption p (true ≡ false) (λ y. Decides true (x ≡ y))) → o ≡ p
+same_width : (o p : Option ℕ) → true ≡ option_eq ◌==◌ o p → o ≡ p
 same_width None None h = refl
 same_width None (Some y) h = let z : ◌≡◌ {A = ℕ} 0 1 = cc in absurd (omega arith)
 same_width (Some x) None h = let z : ◌≡◌ {A = ℕ} 0 1 = cc in absurd (omega arith)
-same_width (Some x) (Some y) h = ap Some (h.0 refl)
+same_width (Some x) (Some y) h = ap Some (eqb-true x y (sym h))
 
 pub returns-then-eq : goal.returns-then-eq
 returns-then-eq g c =

@@ -5,7 +5,7 @@ use Rattle.settings.specs.Values.{laid}
 use Rattle.settings.specs.Settings.{place_count}
 use Rattle.store.proofs.Logged.{first_none, turn_some, turn_none}
 use Rattle.store.proofs.records.compact.Goals as goal
-use Rattle.store.proofs.records.compact.Goals.{in-Some, in-default}
+use Rattle.store.proofs.records.compact.Goals.{in-Some, in_default}
 
 pub loop-place-init : goal.loop-place-init
 loop-place-init c =
@@ -18,15 +18,15 @@ loop-place-preserved c =
     let place = c.loop-place.place in
     let count = c.loop-place.count in
     let inv = c.loop-place.invariant in
-    let within : count < length full = omega (arith, inv.0, c.loop-place-test.true, c.told_row) in
+    let within : count < length full = omega (arith, inv.0, c.loop-place-test.true, c.told-row) in
     elim c.match-latest.branch [
       | in-Some w ↦ (
           let turn = turn_some full c.loop-place.row place count inv.1 inv.2 w.in-Some.record.now w.in-Some.ensures within in
-          (omega (arith, w.count_is, inv.0), w.count_is ∙ turn.0, w.row_is ∙ turn.1)
+          (omega (arith, w.count-is, inv.0), w.count-is ∙ turn.0, w.row-is ∙ turn.1)
           )
-      | in-default w ↦ (
+      | in_default w ↦ (
           let turn = turn_none full c.loop-place.row place count inv.1 inv.2 w.in_default.ensures in
-          (omega (arith, w.count_is, inv.0), w.count_is ∙ turn.0, w.row_is ∙ turn.1)
+          (omega (arith, w.count-is, inv.0), w.count-is ∙ turn.0, w.row-is ∙ turn.1)
           )
     ]
 

@@ -8,7 +8,7 @@ use Rattle.store.proofs.rows.lay.Goals as goal
 pub returns : goal.returns
 returns c =
     let place = c.args.place.at in
-    let long : width place ≤ length c.args.held.now = omega (arith, (fits place c.args.place.bound).1, c.told_held) in
+    let long : width place ≤ length c.args.held.now = omega (arith, (fits place c.args.place.bound).1, c.told-held) in
     let count : c.width-width.result - 0 ≡ width place = omega (arith, c.width-width.ensures) in
     record {
       width = search rules;

@@ -6,7 +6,7 @@ use Rattle.services.specs.declared.entry.Entry.TheVariants.{Free}
 use Rattle.services.specs.Entries.{is_free}
 use Rattle.services.proofs.Placing.{counted_sound}
 use Rattle.services.proofs.table.Table.left.Goals as goal
-use Rattle.services.proofs.table.Table.left.Goals.{in-Free, in-default}
+use Rattle.services.proofs.table.Table.left.Goals.{in-Free, in_default}
 
 pub overflow_add-free : goal.overflow_add-free
 overflow_add-free c =
@@ -22,8 +22,8 @@ loop-entry-preserved c =
     let i = c.loop-entry.entry-index in
     let within : i < length es = let whole = c.args.self.now.sound.0 in omega arith in
     elim c.match-entry.branch [
-      | in-Free w ↦ let more = count_by_more_yes is_free es i Free within (ap is_free w.in-Free.is) in omega (arith, w.free_is)
-      | in-default w ↦ let same = count_by_more_no is_free es i Free within (ap is_free w.in_default.is) in omega (arith, w.free_is)
+      | in-Free w ↦ let more = count_by_more_yes is_free es i Free within (ap is_free w.in-Free.is) in omega (arith, w.free-is)
+      | in_default w ↦ let same = count_by_more_no is_free es i Free within (ap is_free w.in_default.is) in omega (arith, w.free-is)
     ]
 
 pub returns : goal.returns

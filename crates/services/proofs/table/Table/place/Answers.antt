@@ -8,7 +8,7 @@ use Rattle.services.proofs.Staying.{in_own_entry, in_free_entry, in_no_entry}
 use Rattle.services.proofs.table.Table.place.Goals as goal
 
 pub invariant_of-self : goal.invariant_of-self
-invariant_of-self c = (sound_known c.args.self.now.entries c.in-Some.at c.args.service c.args.self.now.sound c.requires c.in-Some.ensures.last, tt)
+invariant_of-self c = record { sound = sound_known c.args.self.now.entries c.in-Some.at c.args.service c.args.self.now.sound c.requires c.in-Some.ensures.last }
 
 pub returns-in-Some : goal.returns-in-Some
 returns-in-Some c =
@@ -21,7 +21,7 @@ returns-in-Some c =
 
 pub invariant_of-self-in-Some-find : goal.invariant_of-self-in-Some-find
 invariant_of-self-in-Some-find c =
-    (sound_new c.args.self.now.entries c.in-Some-find.at c.args.service c.args.self.now.sound c.requires c.in_default.ensures.last c.in-Some-find.ensures.last, tt)
+    record { sound = sound_new c.args.self.now.entries c.in-Some-find.at c.args.service c.args.self.now.sound c.requires c.in_default.ensures.last c.in-Some-find.ensures.last }
 
 pub returns-in-Some-find : goal.returns-in-Some-find
 returns-in-Some-find c =

@@ -12,7 +12,7 @@ use Rattle.services.proofs.table.Table.remove.Goals as goal
 pub invariant_of-self : goal.invariant_of-self
 invariant_of-self c =
     let table = c.args.self.now in
-    (sound_freed table.entries c.in-Some.at table.sound (has_within key_in table.entries c.args.id c.in-Some.at c.in-Some.ensures.last.has), tt)
+    record { sound = sound_freed table.entries c.in-Some.at table.sound (has_within key_in table.entries c.args.id c.in-Some.at c.in-Some.ensures.last.has) }
 
 pub returns-in-Some : goal.returns-in-Some
 returns-in-Some c =
