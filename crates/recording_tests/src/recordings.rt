@@ -103,7 +103,7 @@ fn room_for_a_line(rt: HostRuntime) {
     assert!(rt; line(b"~", 1, &mut row) == Ok(0));
     assert_eq!(rt; &row, &[0xee; 32]);
     assert!(rt; line(b"~~", 0, &mut row) == Ok(12));
-    assert_eq!(rt; &row[0..14], b"1 0 empty -\n\xee\xee");
+    assert_eq!(rt; &row[0..14], b"1 0 empty -\n\xee\xee".as_slice());
     assert!(rt; names(&mut row) == Ok(28));
     assert_eq!(rt; &row, b"place bytes verdict command\n\xee\xee\xee\xee");
 }

@@ -2,7 +2,6 @@
 use Rattle.std.proofs.Common.{◌≡◌, ℕ, length, get_or, Some, None, sym, ap, ◌∙◌}
 use Rattle.std.specs.Option.{option_map}
 use Rattle.store.specs.Rows.{length_value}
-use Rattle.settings.specs.Settings.{width}
 use Rattle.settings.specs.Values.{read_into}
 use Rattle.store.proofs.Meaning.{holds_some, holds_none}
 use Rattle.store.proofs.slot.SlotStoreStore.read.Goals as goal
