@@ -1,6 +1,6 @@
 -- The pieces of a recording, with the flags between them, are the recording. Assumes nothing.
 use Rattle.std.proofs.Common.{◌≡◌, ℕ, zero, suc, ◌+◌, ◌<◌, ◌≤◌, min, Bool, true, false, cond, not, ◌&&◌, eqb, ltb, List, [], ◌∷◌, ◌++◌, length, get_or, take, drop, is_some, Option, sym, refl, ap, ◌∙◌, subst, ⊎_elim, append_assoc, append-nil, one-add, arith, length-drop, take-append-drop}
-use Rattle.std.specs.List.{flat_map, prefix_len, AllByRecursion as All}
+use Rattle.std.specs.List.{flat_map, prefix_len, AllByRecursion}
 use Rattle.std.proofs.lemmas.Bool.Decides.{nat_tests}
 use Rattle.std.proofs.lemmas.List.{drop-drop, drop_all, drop_more, get_or-drop}
 use Rattle.std.proofs.lemmas.Bool.{eqb-true, eqb-false, eq-eqb, ne_eqb, ltb-false, and_parts, cases_eq}
@@ -107,7 +107,7 @@ module _ (bytes : List ℕ) (short : length bytes ≤ limit) where
   record Going (place : ℕ) (pieces : List Located) : Type 0 where
     calls : Calls bytes place pieces
     covers : flat_map spelled pieces ≡ drop (start_at bytes place) bytes
-    flag_free : All (λ (piece : Located). FlagFree piece.raw) pieces
+    flag_free : AllByRecursion (λ (piece : Located). FlagFree piece.raw) pieces
 
   begins : (place : ℕ) → place ≤ start_at bytes place
   begins place = grind (arith, nat_tests)

@@ -1,6 +1,6 @@
 -- What the pieces of a recording are together. Assumes nothing.
 use Rattle.std.specs.Prelude.{◌≡◌, ℕ, ◌≤◌, cond, List, [], ◌∷◌, ◌++◌, length, drop}
-use Rattle.std.specs.List.{flat_map, AllByRecursion as All}
+use Rattle.std.specs.List.{flat_map, AllByRecursion}
 use Rattle.frame.specs.Escapes.{flag}
 use Rattle.frame.specs.Laws.{FlagFree}
 use Rattle.recording.specs.declared.status.Label.{Label}
@@ -34,7 +34,7 @@ passed_over bytes place = cond (passes bytes place) (flag ∷ []) []
 pub record Covered (bytes : List ℕ) (place : ℕ) (pieces : List Located) : Type 0 where
   pub calls : Calls bytes place pieces
   pub covers : passed_over bytes place ++ flat_map spelled pieces ≡ drop place bytes
-  pub flag_free : All (λ (piece : Located). FlagFree piece.raw) pieces
+  pub flag_free : AllByRecursion (λ (piece : Located). FlagFree piece.raw) pieces
 
 -- for every recording within the limit and every place in it the calls end; from place 0 on they cover it whole
 abbrev pub PiecesCoverTheRecording : Type 0

@@ -1,12 +1,12 @@
 -- The bytes of a service that was read from nine bytes are those nine. Assumes nothing.
 use Rattle.std.proofs.Common.{◌≡◌, ℕ, zero, suc, ◌+◌, ◌*◌, ◌/◌, ◌%◌, ◌^◌, ◌<◌, ◌≤◌, List, [], ◌∷◌, ◌++◌, length, get_or, take, drop, sym, refl, ap, ◌∙◌, add-one, arith, length-drop}
-use Rattle.std.specs.List.{AllByRecursion as All}
+use Rattle.std.specs.List.{AllByRecursion}
 use Rattle.std.proofs.lemmas.List.{take_more, drop_more, drop-drop, take_all, take-append-drop, get_or-drop}
 use Rattle.service.specs.Laws.{WritingUndoesReading}
 use Rattle.service.specs.Layout.{byte_count, big_endian, number_at}
 
 abbrev Bytes : List ℕ → Type 0
-Bytes bytes = All (λ b. b < 2 ^ 8) bytes
+Bytes bytes = AllByRecursion (λ b. b < 2 ^ 8) bytes
 
 byte_at : (bytes : List ℕ) (i : ℕ) → Bytes bytes → get_or bytes i 0 < 256
 byte_at [] i all = omega arith
