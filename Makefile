@@ -4,8 +4,7 @@
 run:
 	@mkdir -p target
 	@echo 'Proving pieces and the crates below it; the log is target/run.log.'
-	@rt check pieces > target/run.log 2>&1 || { cat target/run.log; exit 1; }
-	@./target/bin/pieces < samples/line.bin
+	@cd crates/pieces && rt run < ../../samples/line.bin 2> ../../target/run.log || { cat ../../target/run.log; exit 1; }
 
 test:
 	@bash .ci/run
