@@ -1,5 +1,5 @@
 -- The verdict on a piece, from its raw bytes. Assumes nothing.
-use Rattle.std.specs.Prelude.{ℕ, ◌+◌, ◌-◌, ◌*◌, ◌^◌, Bool, not, ltb, List, [], ◌∷◌, length, take, is_some, ◌==◌, nat_lt, slice_index}
+use Rattle.std.specs.Prelude.{ℕ, ◌+◌, ◌-◌, ◌*◌, ◌^◌, Bool, not, List, [], ◌∷◌, length, take, is_some, ◌==◌, nat_lt, slice_index}
 use Rattle.std.specs.Option.{unwrap_or}
 use Rattle.fcs.specs.Sum.{fcs}
 use Rattle.frame.specs.declared.verdict.Verdict.{Verdict}
@@ -34,7 +34,7 @@ verdict_by none bad over content =
     ((none ⇒ Empty)
     ∷ (bad ⇒ Escape)
     ∷ (over ⇒ Long)
-    ∷ (ltb (length content) shortest ⇒ Short)
+    ∷ (nat_lt (length content) shortest ⇒ Short)
     ∷ (not (due content == carried content) ⇒ Check)
     ∷ [])
     Good

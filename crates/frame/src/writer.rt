@@ -1,5 +1,5 @@
 // Writes a frame into the caller's buffer: flag, escaped content with its check bytes, flag.
-ghost use Rattle.std.specs.Prelude.{◌≡◌, ◌+◌, ◌-◌, ◌≤◌, leb, [], ◌∷◌, length, if◌then◌else◌, Some, None, nat_le};
+ghost use Rattle.std.specs.Prelude.{◌≡◌, ◌+◌, ◌-◌, ◌≤◌, [], ◌∷◌, length, if◌then◌else◌, Some, None, nat_le};
 ghost use Rattle.fcs.specs.Sum.{check_bytes};
 ghost use Rattle.frame.specs.Escapes.{escape_byte, escaped_byte, escaped};
 ghost use Rattle.frame.specs.Frames.{frame_of};
@@ -49,7 +49,7 @@ fn fits(message: &[u8], check: &[u8], room: usize) -> bool
 
 // How much room the bytes, escaped, leave; none where there is too little.
 fn left_after(room: usize, bytes: &[u8]) -> Option<usize>
-    ensures { result ≡ (if leb (length (escaped bytes.now)) room then Some (room - length (escaped bytes.now)) else None) }
+    ensures { result ≡ (if nat_le (length (escaped bytes.now)) room then Some (room - length (escaped bytes.now)) else None) }
 {
     let mut left = room;
     for byte in bytes {

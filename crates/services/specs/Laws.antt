@@ -1,5 +1,5 @@
 -- What is promised of tables of services, beside what each call does. Assumes nothing.
-use Rattle.std.specs.Prelude.{◌≡◌, ℕ, ◌+◌, ◌≤◌, true, false, cond, List, length, get_or, Some, None, Ok, Err, count_by, Option, ◌≢◌, slice_index_or, slice_set}
+use Rattle.std.specs.Prelude.{◌≡◌, ℕ, ◌+◌, ◌≤◌, true, false, cond, List, length, Some, None, Ok, Err, count_by, Option, ◌≢◌, slice_index_or, slice_set}
 use Rattle.services.specs.declared.table.Refusal.{Refusal}
 use Rattle.services.specs.declared.table.Refusal.TheVariants.{Rule, Full}
 use Rattle.services.specs.declared.table.Table.{Table}
@@ -55,7 +55,7 @@ RuleExactlyWhereBroken =
 
 -- the value's id reads as the value, or as none where its time is 0, and every other id as before
 pub record Taken (before after : List (Option Service)) (s : Service) : Type 0 where
-  pub this : get_or after s.id None ≡ cond (is_deletion s) None (Some s)
+  pub this : slice_index_or after s.id None ≡ cond (is_deletion s) None (Some s)
   pub others : (id : ℕ) → (id ≢ s.id) → slice_index_or after id None ≡ slice_index_or before id None
 
 -- an accepted value is taken

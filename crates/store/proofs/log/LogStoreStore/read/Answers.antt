@@ -1,4 +1,4 @@
--- What the search leaves to show of `LogAsStore::read`.
+-- What the search leaves to show of `LogStore::read`.
 use Rattle.std.proofs.Common.{◌≡◌, length, Some, None, sym, ap, ◌∙◌}
 use Rattle.std.specs.Option.{option_map}
 use Rattle.settings.specs.Values.{read_into}

@@ -1,4 +1,4 @@
--- What the search leaves to show of `LogAsStore::wipe`.
+-- What the search leaves to show of `LogStore::wipe`.
 use Rattle.std.proofs.Common.{refl}
 use Rattle.store.proofs.Logged.{empty_log}
 use Rattle.store.proofs.log.LogStoreStore.wipe.Goals as goal

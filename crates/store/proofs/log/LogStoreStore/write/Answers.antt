@@ -1,4 +1,4 @@
--- What the search leaves to show of `LogAsStore::write`.
+-- What the search leaves to show of `LogStore::write`.
 use Rattle.std.proofs.Common.{refl, ap, ◌∙◌}
 use Rattle.store.specs.Logs.{record_of, row_of, records_of, appended}
 use Rattle.store.specs.Rows.{values_by}

@@ -1,4 +1,4 @@
--- What the search leaves to show of `SlotAsStore::read`.
+-- What the search leaves to show of `SlotStore::read`.
 use Rattle.std.proofs.Common.{◌≡◌, ℕ, length, get_or, Some, None, sym, ap, ◌∙◌}
 use Rattle.std.specs.Option.{option_map}
 use Rattle.store.specs.Rows.{length_value}

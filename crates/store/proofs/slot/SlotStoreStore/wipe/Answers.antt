@@ -1,4 +1,4 @@
--- What the search leaves to show of `SlotAsStore::wipe`.
+-- What the search leaves to show of `SlotStore::wipe`.
 use Rattle.store.proofs.Meaning.{list_wiped}
 use Rattle.store.proofs.slot.SlotStoreStore.wipe.Goals as goal
 

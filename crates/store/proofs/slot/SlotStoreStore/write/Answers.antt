@@ -1,4 +1,4 @@
--- What the search leaves to show of `SlotAsStore::write`.
+-- What the search leaves to show of `SlotStore::write`.
 use Rattle.std.proofs.Common.{◌≡◌, length, rules}
 use Rattle.settings.specs.Settings.{place_count}
 use Rattle.store.proofs.Meaning.{list_written}
