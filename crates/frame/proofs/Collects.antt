@@ -64,10 +64,10 @@ one_more_at false c o v (Some cs) rest e few more =
     let full : length c ≡ longest = omega (arith, ltb-false (length c) longest e) in
     more c true few ∙ filled_full c o v cs full
 
-one_more : (c : List ℕ) (o : Bool) (v : ℕ) (u : Option (List ℕ)) (rest : List ℕ) → length c ≤ longest → Following u rest → Leaves (before (Some v) u) c o (fold collect (added c o v) rest)
+one_more : (c : List ℕ) (o : Bool) (v : ℕ) (u : Option (List ℕ)) (rest : List ℕ) → length c ≤ longest → Following u rest → Leaves (before (Some v) u) c o (fold collect (added (kept c o Whole) v) rest)
 one_more c o v u rest few more = one_more_at (ltb (length c) longest) c o v u rest refl few more
 
-resolves : (s : Option ℕ) (c : List ℕ) (o : Bool) (u : Option (List ℕ)) (rest : List ℕ) → length c ≤ longest → Following u rest → Leaves (before s u) c o (fold collect (resolved c o s) rest)
+resolves : (s : Option ℕ) (c : List ℕ) (o : Bool) (u : Option (List ℕ)) (rest : List ℕ) → length c ≤ longest → Following u rest → Leaves (before s u) c o (fold collect (resolved (kept c o Half) s) rest)
 resolves None c o u rest few more = bad_stays rest c o
 resolves (Some v) c o u rest few more = one_more c o v u rest few more
 
@@ -78,11 +78,11 @@ nothing_more c o few =
     let over : o ≡ (o || ltb longest (length (c ++ []))) = sym (ap (λ t. o || t) (le-ltb longest (length (c ++ [])) within) ∙ or_false o) in
     λ i. kept (all i) (over i) Whole
 
-last_byte : (t : Bool) (b : ℕ) (c : List ℕ) (o : Bool) → length c ≤ longest → Leaves (cond t None (Some (b ∷ []))) c o (cond t (kept c o Half) (added c o b))
+last_byte : (t : Bool) (b : ℕ) (c : List ℕ) (o : Bool) → length c ≤ longest → Leaves (cond t None (Some (b ∷ []))) c o (cond t (kept c o Half) (added (kept c o Whole) b))
 last_byte true b c o few = refl
 last_byte false b c o few = one_more c o b (Some []) [] few (λ d p h. nothing_more d p h)
 
-two_bytes : (t : Bool) (b e : ℕ) (u w : Option (List ℕ)) (raw : List ℕ) → Following u raw → Following w (e ∷ raw) → (c : List ℕ) (o : Bool) → length c ≤ longest → Leaves (cond t (before (stands_for e) u) (before (Some b) w)) c o (fold collect (cond t (kept c o Half) (added c o b)) (e ∷ raw))
+two_bytes : (t : Bool) (b e : ℕ) (u w : Option (List ℕ)) (raw : List ℕ) → Following u raw → Following w (e ∷ raw) → (c : List ℕ) (o : Bool) → length c ≤ longest → Leaves (cond t (before (stands_for e) u) (before (Some b) w)) c o (fold collect (cond t (kept c o Half) (added (kept c o Whole) b)) (e ∷ raw))
 two_bytes true b e u w raw past next c o few = resolves (stands_for e) c o u raw few past
 two_bytes false b e u w raw past next c o few = one_more c o b w (e ∷ raw) few next
 

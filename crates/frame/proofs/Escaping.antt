@@ -1,8 +1,10 @@
 -- Escaping, byte by byte and part by part, and back. Assumes nothing.
-use Rattle.std.proofs.Common.{◌≡◌, ℕ, ◌+◌, ◌<◌, ◌≤◌, Bool, true, false, cond, eqb, List, [], ◌∷◌, ◌++◌, length, get_or, take, drop, Some, None, sym, refl, ap, ◌∙◌, append_assoc, arith, length-append, take-append-drop}
+use Rattle.std.proofs.Common.{◌≡◌, ℕ, ◌+◌, ◌*◌, ◌<◌, sum_by, ◌≤◌, Bool, true, false, cond, eqb, List, [], ◌∷◌, ◌++◌, length, get_or, take, drop, Some, None, sym, refl, ap, ◌∙◌, append_assoc, arith, length-append, take-append-drop}
 use Rattle.std.proofs.ByRecursion.{All-append}
 use Rattle.std.proofs.lemmas.List.{take_more}
 use Rattle.std.proofs.lemmas.Bool.{eqb-true, eqb-false, ne_eqb}
+use Rattle.std.proofs.lemmas.List.Sums.{sum_by-le}
+use Rattle.std.proofs.lemmas.Bool.Decides.{nat_tests}
 use Rattle.frame.specs.Escapes.{flag, escape_byte, escaped_byte, escaped, stands_for, before, unescaped}
 use Rattle.frame.specs.Laws.{FlagFree, UnescapingUndoesEscaping, EscapedHoldsNoFlag}
 
@@ -60,3 +62,9 @@ flag_free [] = tt
 flag_free (b ∷ content) =
     All-append (λ x. x ≡ flag → ⊥) (escaped_byte b) (escaped content)
     (byte_free (eqb b flag) (eqb b escape_byte) b refl) (flag_free content)
+
+byte_at_most_two : (b : ℕ) → length (escaped_byte b) ≤ 2
+byte_at_most_two b = grind (arith, nat_tests)
+
+pub at_most_two : (bytes : List ℕ) → sum_by (λ x. length (escaped_byte x)) bytes ≤ length bytes * 2
+at_most_two bytes = sum_by-le (λ x. length (escaped_byte x)) 2 bytes (λ k d h. byte_at_most_two (get_or bytes k d))

@@ -1,7 +1,7 @@
 // The receiving end of a line: waits for a first flag, then collects piece after piece.
 ghost use Rattle.std.specs.Prelude.{◌≡◌, ℕ, List, []};
 ghost use Rattle.frame.specs.Laws.{ReceiverLaws};
-ghost use Rattle.frame.specs.Lines.{Line, waiting, since, hear, verdict_at, hearing, silent, hear_on, closes, Hears};
+ghost use Rattle.frame.specs.Lines.{Line, waiting, since, hear, verdict_at, hearing, silent, hear_on, closes, content_kept, Hears};
 ghost use Rattle.frame.specs.Verdicts.{content_of, verdict_of};
 ghost use Rattle.frame.specs.declared.verdict.Verdict.TheVariants.{Good};
 
@@ -11,9 +11,8 @@ use crate::verdict::Verdict;
 
 #[derive(Clone, Copy)]
 pub struct Receiver {
-    // No flag came yet.
-    waiting: bool,
-    piece: Collector,
+    // The piece since the last flag; none while no flag came yet.
+    piece: Option<Collector>,
 }
 
 impl Receiver {
@@ -23,10 +22,7 @@ impl Receiver {
         ensures line { Hears waiting result }
         ensures laws { ReceiverLaws }
     {
-        Receiver {
-            waiting: true,
-            piece: Collector::new(),
-        }
+        Receiver { piece: None }
     }
 
     // Takes one byte from the line. A flag ends whatever was collected and begins a new piece.
@@ -34,11 +30,11 @@ impl Receiver {
         ensures hears { hearing self.new ≡ hear_on (hearing self.old) byte }
         ensures line { (line : Line) → Hears line self.old → Hears (hear line byte) self.new }
     {
-        if byte == FLAG {
-            self.waiting = false;
-            self.piece.clear();
-        } else if !self.waiting {
-            self.piece.put(byte);
+        match &mut self.piece {
+            Some(piece) if byte == FLAG => piece.clear(),
+            Some(piece) => piece.put(byte),
+            None if byte == FLAG => self.piece = Some(Collector::new()),
+            None => {}
         }
     }
 
@@ -47,19 +43,15 @@ impl Receiver {
         ensures hears { result ≡ closes (hearing self.now) }
         ensures line { (line : Line) → Hears line self.now → result ≡ verdict_at line }
     {
-        if self.waiting {
-            None
-        } else {
-            Some(self.piece.verdict())
-        }
+        self.piece.as_ref().map(|piece| piece.verdict())
     }
 
     // The content of the piece, as far as it was collected; no byte while it waits.
     pub fn content(&self) -> &[u8]
-        ensures hears { result.now ≡ (hearing self.now).kept.content }
+        ensures hears { result.now ≡ content_kept (hearing self.now) }
         ensures silent { Hears waiting self.now → result.now ≡ [] }
         ensures line { (raw : List ℕ) → Hears (since raw) self.now → verdict_of raw ≡ Good → result.now ≡ content_of raw }
     {
-        self.piece.content()
+        self.piece.as_ref().map_or(&[], |piece| piece.content())
     }
 }
