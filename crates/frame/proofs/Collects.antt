@@ -1,6 +1,7 @@
 -- What a collector keeps of a piece is its content, cut off at 125 bytes, or that an escape is not right. Assumes nothing.
 use Rattle.std.proofs.Common.{◌≡◌, ℕ, ◌<◌, ◌≤◌, Bool, true, false, cond, ◌||◌, eqb, ltb, List, [], ◌∷◌, ◌++◌, length, take, Some, None, fold, Option, sym, refl, ap, ◌∙◌, append_assoc, append-nil, arith, length-append, take_all}
-use lib.Seq.{take-append-le}
+use Rattle.std.proofs.Math.Bool.{or-true, or-false}
+use Rattle.std.proofs.lemmas.List.{take-append-le}
 use Rattle.std.proofs.lemmas.List.Sums.{fold_push}
 use Rattle.std.proofs.lemmas.Bool.{ltb-true, ltb-false, lt-ltb, le-ltb}
 use Rattle.frame.specs.declared.collector.Escapes.TheVariants.{Whole, Half, Bad}
@@ -29,14 +30,6 @@ bad_stays : (raw : List ℕ) (c : List ℕ) (o : Bool) → is_whole (fold collec
 bad_stays [] c o = refl
 bad_stays (b ∷ raw) c o = bad_stays raw c o
 
-or_true : (o : Bool) → (o || true) ≡ true
-or_true true = refl
-or_true false = refl
-
-or_false : (o : Bool) → (o || false) ≡ o
-or_false true = refl
-or_false false = refl
-
 -- one byte more goes before the bytes to come
 filled_room : (c : List ℕ) (o : Bool) (v : ℕ) (cs : List ℕ) → filled (c ++ v ∷ []) o cs ≡ filled c o (v ∷ cs)
 filled_room c o v cs = ap (λ l. kept (take longest l) (o || ltb longest (length l)) Whole) (append_assoc c (v ∷ []) cs)
@@ -46,7 +39,7 @@ filled_full c o v cs full =
     let fits : longest ≤ length c = omega arith in
     let long : longest < length (c ++ v ∷ cs) = simp length-append (omega arith) in
     let front : take longest (c ++ cs) ≡ take longest (c ++ v ∷ cs) = take-append-le longest c cs fits ∙ sym (take-append-le longest c (v ∷ cs) fits) in
-    let over : true ≡ (o || ltb longest (length (c ++ v ∷ cs))) = sym (ap (λ t. o || t) (lt-ltb _ _ long) ∙ or_true o) in
+    let over : true ≡ (o || ltb longest (length (c ++ v ∷ cs))) = sym (ap (λ t. o || t) (lt-ltb _ _ long) ∙ or-true o) in
     λ i. kept (front i) (over i) Whole
 
 abbrev Following : Option (List ℕ) → List ℕ → Type 0
@@ -75,7 +68,7 @@ nothing_more : (c : List ℕ) (o : Bool) → length c ≤ longest → kept c o W
 nothing_more c o few =
     let all : c ≡ take longest (c ++ []) = sym (take_all longest c few) ∙ ap (take longest) (sym (append-nil c)) in
     let within : length (c ++ []) ≤ longest = simp append-nil few in
-    let over : o ≡ (o || ltb longest (length (c ++ []))) = sym (ap (λ t. o || t) (le-ltb longest (length (c ++ [])) within) ∙ or_false o) in
+    let over : o ≡ (o || ltb longest (length (c ++ []))) = sym (ap (λ t. o || t) (le-ltb longest (length (c ++ [])) within) ∙ or-false o) in
     λ i. kept (all i) (over i) Whole
 
 last_byte : (t : Bool) (b : ℕ) (c : List ℕ) (o : Bool) → length c ≤ longest → Leaves (cond t None (Some (b ∷ []))) c o (cond t (kept c o Half) (added (kept c o Whole) b))

@@ -3,18 +3,19 @@ use Rattle.std.proofs.Common.{◌≡◌, ℕ, ◌+◌, ◌-◌, ◌*◌, ◌^◌
 use Rattle.std.proofs.lemmas.Nat.{div-add-mod'}
 use Rattle.std.proofs.lemmas.List.{take_at, get_or-append-add, same_from_push}
 use Rattle.std.proofs.lemmas.Bool.{cond-true, le-leb, ne_eqb}
+use Rattle.std.proofs.lemmas.Grind.{flat_map-append}
 use Rattle.std.proofs.lemmas.List.Sums.{fold_push}
 use Rattle.fcs.specs.Sum.{fcs, check_bytes}
 use Rattle.frame.specs.declared.verdict.Verdict.TheVariants.{Good}
 use Rattle.frame.specs.declared.cursor.Cursor.{Cursor}
 use Rattle.frame.specs.Cursors.{Puts}
-use Rattle.frame.specs.Escapes.{flag, escaped, unescaped}
+use Rattle.frame.specs.Escapes.{flag, escaped_byte, escaped, unescaped}
 use Rattle.frame.specs.Frames.{checked, body_of, frame_of}
 use Rattle.frame.specs.Laws.{FlagFree, FramesComeBack, EqualFramesHaveEqualMessages, FrameLaws}
 use Rattle.frame.specs.Lines.{Line, waiting, since, hear, heard}
 use Rattle.frame.specs.Verdicts.{due, carried, verdict_of}
 use Rattle.frame.specs.Written.{fits_into, written}
-use Rattle.frame.proofs.Escaping.{escaped-append, undone, flag_free}
+use Rattle.frame.proofs.Escaping.{undone, flag_free}
 use Rattle.frame.proofs.Judges.{good_content}
 use Rattle.frame.proofs.Cursors.{puts_more}
 
@@ -22,7 +23,7 @@ use Rattle.frame.proofs.Cursors.{puts_more}
 
 pub frame_parts : (message : List ℕ) → frame_of message ≡ flag ∷ ((escaped message ++ escaped (check_bytes message)) ++ flag ∷ [])
 unfolding frame_of body_of
-frame_parts message = ap (λ l. flag ∷ (l ++ flag ∷ [])) (escaped-append message (check_bytes message))
+frame_parts message = ap (λ l. flag ∷ (l ++ flag ∷ [])) (flat_map-append escaped_byte message (check_bytes message))
 
 pub frame_length : (message : List ℕ) → length (frame_of message) ≡ length (escaped message) + length (escaped (check_bytes message)) + 2
 frame_length message =

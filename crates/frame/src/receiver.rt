@@ -17,6 +17,7 @@ pub struct Receiver {
 
 impl Receiver {
     // A receiver that waits for a first flag.
+    #[tactic(auto, using(crate::proofs::Following::receiver_laws))]
     pub fn new() -> Receiver
         ensures hears { hearing result ≡ silent }
         ensures line { Hears waiting result }
