@@ -1,6 +1,6 @@
 -- Bytes with their own check bytes leave one constant, whatever the bytes. Assumes nothing.
 use Rattle.std.proofs.Common.{◌≡◌, ℕ, ◌/◌, ◌%◌, ◌^◌, [], ◌∷◌, ◌++◌, sym, refl, ap, ◌∙◌, append_assoc, arith}
-use Rattle.std.specs.Int.Bits.{bit_xor, xor_shr, xor_mod, xor_assoc, xor_comm, xor_self, xor_zero_r}
+use Rattle.std.specs.Int.Bits.{bit_xor, xor_shr, xor_mod, xor_assoc, xor_comm, xor_self, xor_zero_l, xor_zero_r}
 use Rattle.std.proofs.Math.Nat.{div-eq_of_lt, mod-mod}
 use Rattle.std.proofs.lemmas.Nat.{mod_below}
 use Rattle.std.proofs.lemmas.List.Sums.{fold_push}
@@ -14,7 +14,7 @@ nine_digits = refl
 
 -- what was put in comes out again
 xor_back : (a b : ℕ) → bit_xor a (bit_xor b a) ≡ b
-xor_back a b = ap (bit_xor a) (xor_comm b a) ∙ sym (xor_assoc a a b) ∙ ap (λ n. bit_xor n b) (xor_self a)
+xor_back a b = cc (xor_comm b a, xor_assoc a a b, xor_self a, xor_zero_l b)
 
 constant : eight_steps (bit_xor (eight_steps 0xFF) 0xFF) ≡ 0xF0B8
 unfolding bit_step eight_steps

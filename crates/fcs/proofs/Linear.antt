@@ -1,5 +1,5 @@
 -- The register's steps are linear, so that its high byte and its low byte may be taken one by one. Assumes nothing.
-use Rattle.std.proofs.Common.{◌≡◌, ℕ, ◌-◌, ◌*◌, ◌/◌, ◌%◌, ◌^◌, ◌<◌, cond, eqb, ◌⊎◌, sym, ap, ◌∙◌, inl, inr, arith}
+use Rattle.std.proofs.Common.{◌≡◌, ℕ, ◌-◌, ◌*◌, ◌/◌, ◌%◌, ◌^◌, ◌<◌, cond, eqb, sym, ap, ◌∙◌, arith}
 use Rattle.std.specs.Int.Bits.{bit_and, bit_xor, and_comm, and_mask, xor_add_and, xor_shr, xor_mod, xor_assoc, xor_comm, xor_zero_r, xor_shifted}
 use Rattle.std.proofs.Math.Nat.{div-eq_of_lt, mod-eq_of_lt}
 use Rattle.std.proofs.lemmas.Nat.{mod_below, shr_split}
@@ -9,23 +9,11 @@ use Rattle.fcs.specs.Sum.{polynomial, bit_step, eight_steps, step}
 abbrev fed : ℕ → ℕ
 fed bit = cond (eqb bit 1) polynomial 0
 
-bit_cases : (n : ℕ) → n < 2 → (n ≡ 0) ⊎ (n ≡ 1)
-bit_cases n h = grind arith
-
-fed_by : (p q : ℕ) → (p ≡ 0) ⊎ (p ≡ 1) → (q ≡ 0) ⊎ (q ≡ 1) → fed (bit_xor p q) ≡ bit_xor (fed p) (fed q)
-fed_by p q (inl ep) (inl eq) = simp (ep, eq)
-fed_by p q (inl ep) (inr eq) = simp (ep, eq)
-fed_by p q (inr ep) (inl eq) = simp (ep, eq)
-fed_by p q (inr ep) (inr eq) = simp (ep, eq)
-
 fed-xor : (p q : ℕ) → p < 2 → q < 2 → fed (bit_xor p q) ≡ bit_xor (fed p) (fed q)
-fed-xor p q hp hq = fed_by p q (bit_cases p hp) (bit_cases q hq)
+fed-xor p q hp hq = grind arith
 
 pub xor_swap : (a b c d : ℕ) → bit_xor (bit_xor a b) (bit_xor c d) ≡ bit_xor (bit_xor a c) (bit_xor b d)
-xor_swap a b c d =
-    xor_assoc a b (bit_xor c d)
-    ∙ ap (bit_xor a) (sym (xor_assoc b c d) ∙ ap (λ n. bit_xor n d) (xor_comm b c) ∙ xor_assoc c b d)
-    ∙ sym (xor_assoc a c (bit_xor b d))
+xor_swap a b c d = cc (xor_assoc a b (bit_xor c d), xor_assoc b c d, xor_comm b c, xor_assoc c b d, xor_assoc a c (bit_xor b d))
 
 bit_step-xor : (x y : ℕ) → bit_step (bit_xor x y) ≡ bit_xor (bit_step x) (bit_step y)
 unfolding bit_step
