@@ -1,5 +1,5 @@
 -- One call on a cursor after another. Assumes nothing.
-use Rattle.std.proofs.Common.{◌≡◌, ℕ, ◌+◌, ◌<◌, ◌≤◌, List, [], ◌++◌, length, get_or, take, sym, refl, ap, ◌∙◌, subst, add-zero, arith, length-append}
+use Rattle.std.proofs.Common.{ℕ, ◌+◌, ◌<◌, ◌≤◌, List, [], ◌++◌, length, get_or, take, sym, refl, ap, ◌∙◌, subst, add-zero, arith, length-append}
 use Rattle.std.proofs.lemmas.List.Folds.{length-flat_map-take}
 use Rattle.frame.specs.declared.cursor.Cursor.{Cursor}
 use Rattle.frame.specs.Cursors.{Puts}
@@ -23,10 +23,10 @@ puts_more {a} {b} {c} {xs} {ys} p q within = record {
 pub room_after : {a b : Cursor} {xs : List ℕ} (n : ℕ) → Puts a b xs → a.at + (length xs + n) ≤ length a.out.now → b.at + n ≤ length b.out.now
 room_after {a} {b} {xs} n p room = omega (arith, p.place, ap length p.buffer, length-written a.out.now a.at xs (omega arith))
 
-module _ {a b : Cursor} {piece : List ℕ} (bytes : List ℕ) (i : ℕ) (within : i < length bytes) (front : Puts a b (escaped (take i bytes))) where
+module _ {a b : Cursor} (bytes : List ℕ) (i : ℕ) (within : i < length bytes) (front : Puts a b (escaped (take i bytes))) where
   -- one byte more of a row, escaped, and the room that it finds
-  pub puts_byte : {c : Cursor} → Puts b c piece → piece ≡ escaped_byte (get_or bytes i 0) → a.at ≤ length a.out.now → Puts a c (escaped (take (i + 1) bytes))
-  puts_byte {c} next is fits = subst (Puts a c) (ap (λ l. escaped (take i bytes) ++ l) is ∙ sym (escaped_more bytes i within)) (puts_more front next fits)
+  pub puts_byte : {c : Cursor} → Puts b c (escaped_byte (get_or bytes i 0)) → a.at ≤ length a.out.now → Puts a c (escaped (take (i + 1) bytes))
+  puts_byte {c} next fits = subst (Puts a c) (sym (escaped_more bytes i within)) (puts_more front next fits)
 
-  pub room_for_byte : piece ≡ escaped_byte (get_or bytes i 0) → a.at + length (escaped bytes) ≤ length a.out.now → b.at + length piece ≤ length b.out.now
-  room_for_byte is room = room_after (length piece) front (omega (arith, ap length is, length-flat_map-take escaped_byte bytes i 0 within))
+  pub room_for_byte : a.at + length (escaped bytes) ≤ length a.out.now → b.at + length (escaped_byte (get_or bytes i 0)) ≤ length b.out.now
+  room_for_byte room = room_after (length (escaped_byte (get_or bytes i 0))) front (omega (arith, length-flat_map-take escaped_byte bytes i 0 within))

@@ -1,9 +1,9 @@
 // A place in the caller's buffer, which moves on with each byte that is written.
 ghost use Rattle.std.specs.Prelude.{◌+◌, ◌≤◌, length};
 ghost use Rattle.frame.specs.Cursors.{Puts};
-ghost use Rattle.frame.specs.Escapes.{escaped};
+ghost use Rattle.frame.specs.Escapes.{escaped_byte, escaped};
 
-use crate::escape::escaped_byte;
+use crate::escape::{ESCAPE, escape_of};
 
 #[derive(Drop)]
 pub(crate) struct Cursor<'a> {
@@ -29,7 +29,18 @@ impl Cursor<'_> {
         ensures { Puts self.old self.new (escaped bytes.now) }
     {
         for byte in bytes {
-            self.put(escaped_byte(byte));
+            self.put_byte(*byte);
+        }
+    }
+
+    // Writes one byte, escaped.
+    fn put_byte(&mut self, byte: u8)
+        requires { self.old.at + length (escaped_byte byte) ≤ length self.old.out.now }
+        ensures { Puts self.old self.new (escaped_byte byte) }
+    {
+        match escape_of(byte) {
+            Some(second) => self.put(&[ESCAPE, second]),
+            None => self.put(&[byte]),
         }
     }
 }

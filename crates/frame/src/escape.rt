@@ -1,9 +1,8 @@
 // Escapes: a byte as it goes over the line, and the byte that an escape stands for.
-ghost use Rattle.std.specs.Prelude.{◌≡◌, length};
-ghost use Rattle.frame.specs.Escapes.{escaped_byte, escaped, stands_for};
+ghost use Rattle.std.specs.Prelude.{◌≡◌, length, [], ◌∷◌, MatchOption};
+ghost use Rattle.frame.specs.Escapes.{escape_byte, escaped_byte, escaped, stands_for};
 
 use crate::FLAG;
-use std::slice;
 
 // Begins the two bytes that stand for a flag or for this byte itself inside a frame.
 pub(crate) const ESCAPE: u8 = 0x7d;
@@ -14,14 +13,14 @@ const ESCAPED_FLAG: u8 = 0x5e;
 // What follows the escape byte where the two stand for an escape byte.
 const ESCAPED_ESCAPE: u8 = 0x5d;
 
-// One byte as it goes over the line.
-pub(crate) fn escaped_byte(byte: &u8) -> &[u8]
-    ensures { result.now ≡ escaped_byte byte.now }
+// What follows the escape byte where the two stand for this byte; none where it goes over the line as it is.
+pub(crate) fn escape_of(byte: u8) -> Option<u8>
+    ensures { MatchOption result (escaped_byte byte ≡ byte ∷ []) (λ second. escaped_byte byte ≡ escape_byte ∷ second ∷ []) }
 {
-    match *byte {
-        FLAG => &[ESCAPE, ESCAPED_FLAG],
-        ESCAPE => &[ESCAPE, ESCAPED_ESCAPE],
-        _ => slice::from_ref(byte),
+    match byte {
+        FLAG => Some(ESCAPED_FLAG),
+        ESCAPE => Some(ESCAPED_ESCAPE),
+        _ => None,
     }
 }
 
@@ -29,7 +28,16 @@ pub(crate) fn escaped_byte(byte: &u8) -> &[u8]
 pub(crate) fn escaped_len(bytes: &[u8]) -> usize
     ensures { result ≡ length (escaped bytes.now) }
 {
-    bytes.iter().map(|byte| escaped_byte(byte).len()).sum()
+    bytes.iter().map(|byte| width(*byte)).sum()
+}
+
+fn width(byte: u8) -> usize
+    ensures { result ≡ length (escaped_byte byte) }
+{
+    match escape_of(byte) {
+        Some(_) => 2,
+        None => 1,
+    }
 }
 
 // The byte that an escape byte and this one stand for; none where the escape is bad.
