@@ -2,7 +2,7 @@
 use Rattle.std.proofs.Common.{◌≡◌, ℕ, ◌+◌, ◌*◌, ◌<◌, sum_by, ◌≤◌, Bool, true, false, cond, eqb, List, [], ◌∷◌, ◌++◌, length, get_or, take, Some, None, sym, refl, ap, ◌∙◌, arith}
 use Rattle.std.proofs.ByRecursion.{All-append}
 use Rattle.std.proofs.lemmas.Grind.{common_steps}
-use Rattle.std.proofs.lemmas.Bool.{eqb-true, eqb-false}
+use Rattle.std.proofs.lemmas.Bool.{eqb-true}
 use Rattle.std.proofs.lemmas.List.Sums.{sum_by-le}
 use Rattle.std.proofs.lemmas.Bool.Decides.{nat_tests}
 use Rattle.frame.specs.Escapes.{flag, escape_byte, escaped_byte, escaped, stands_for, before, unescaped}
@@ -40,13 +40,9 @@ undone (b ∷ content) =
     byte_back (eqb b flag) (eqb b escape_byte) b (escaped content) refl refl
     ∙ ap (before (Some b)) (undone content)
 
-byte_free : (f t : Bool) (b : ℕ) → eqb b flag ≡ f → FlagFree (cond f (escape_byte ∷ 0x5E ∷ []) (cond t (escape_byte ∷ 0x5D ∷ []) (b ∷ [])))
-byte_free true t b f = (λ h. omega arith, (λ h. omega arith, tt))
-byte_free false true b f = (λ h. omega arith, (λ h. omega arith, tt))
-byte_free false false b f = (eqb-false b flag f, tt)
+byte_free : (b : ℕ) → FlagFree (escaped_byte b)
+byte_free b = grind (arith, nat_tests)
 
 pub flag_free : EscapedHoldsNoFlag
 flag_free [] = tt
-flag_free (b ∷ content) =
-    All-append (λ x. x ≡ flag → ⊥) (escaped_byte b) (escaped content)
-    (byte_free (eqb b flag) (eqb b escape_byte) b refl) (flag_free content)
+flag_free (b ∷ content) = All-append (λ x. x ≡ flag → ⊥) (escaped_byte b) (escaped content) (byte_free b) (flag_free content)

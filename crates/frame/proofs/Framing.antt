@@ -12,7 +12,7 @@ use Rattle.frame.specs.Cursors.{Puts}
 use Rattle.frame.specs.Escapes.{flag, escaped_byte, escaped, unescaped}
 use Rattle.frame.specs.Frames.{checked, body_of, frame_of}
 use Rattle.frame.specs.Laws.{FlagFree, FramesComeBack, EqualFramesHaveEqualMessages, FrameLaws}
-use Rattle.frame.specs.Lines.{Line, waiting, since, hear, heard}
+use Rattle.frame.specs.Lines.{Line, since, hear, heard}
 use Rattle.frame.specs.Verdicts.{due, carried, verdict_of}
 use Rattle.frame.specs.Written.{fits_into, written}
 use Rattle.frame.proofs.Escaping.{undone, flag_free}
@@ -49,8 +49,7 @@ flags_out (b ∷ raw) acc free =
 
 -- a flag opens a piece, whatever the line was
 flag_opens : (before : Line) (raw : List ℕ) → heard before (flag ∷ raw) ≡ heard (since []) raw
-flag_opens waiting raw = refl
-flag_opens (since old) raw = refl
+flag_opens before raw = refl
 
 checked-length : (message : List ℕ) → length (checked message) ≡ length message + 2
 checked-length message = length-append message (check_bytes message)

@@ -1,9 +1,9 @@
 // Collects a piece byte by byte, undoing its escapes, and judges it.
-ghost use Rattle.std.specs.Prelude.{◌≡◌, ℕ, ◌≤◌, false, List, [], ◌∷◌, ◌++◌, length, ◌==◌};
+ghost use Rattle.std.specs.Prelude.{◌≡◌, ℕ, ◌≤◌, List, [], ◌∷◌, ◌++◌, length, ◌==◌};
 ghost use Rattle.frame.specs.Collected.{kept, kept_by, nothing, added, resolved, collect, judged, Collected};
 ghost use Rattle.frame.specs.Contents.{bytes_of};
 ghost use Rattle.frame.specs.Escapes.{stands_for};
-ghost use Rattle.frame.specs.Verdicts.{shortest, content_of, due, carried, verdict_by, verdict_of};
+ghost use Rattle.frame.specs.Verdicts.{shortest, content_of, due, carried, verdict_of};
 ghost use Rattle.frame.specs.declared.collector.Escapes.TheVariants.{Whole};
 ghost use Rattle.frame.specs.declared.verdict.Verdict.TheVariants.{Good};
 
@@ -24,10 +24,11 @@ enum Escapes {
     Bad,
 }
 
+// Clauses see it through `kept_by`: a `Copy` type that holds a content cannot have an `impl Model`, for the reason that stands there.
 #[derive(Clone, Copy)]
 pub struct Collector {
     content: Content,
-    // More content came than is kept.
+    // More content came than is kept. It is no `Option`: there is a content either way, and under each of the three escapes.
     over: bool,
     escapes: Escapes,
 }

@@ -34,7 +34,8 @@ impl Row {
     }
 }
 
-// The first `count` bytes of the row. No `impl Model` shows it as a list: it is `Copy`, and a list does not give the bytes past the count back.
+// The first `count` bytes of the row.
+// No `ArrayVec`, which is not `Copy` as a receiver is, and no `impl Model`, which at a `Copy` type has to give back the bytes past the count.
 #[derive(Clone, Copy)]
 pub(crate) struct Content {
     count: usize,

@@ -31,6 +31,7 @@ pub(crate) fn escaped_len(bytes: &[u8]) -> usize
     bytes.iter().map(|byte| width(*byte)).sum()
 }
 
+// How many bytes a byte is on the line.
 fn width(byte: u8) -> usize
     ensures { result ≡ length (escaped_byte byte) }
 {

@@ -9,6 +9,7 @@ use crate::FLAG;
 use crate::collector::Collector;
 use crate::verdict::Verdict;
 
+// Clauses see it through `hearing`, as they see its piece through `kept_by`.
 #[derive(Clone, Copy)]
 pub struct Receiver {
     // The piece since the last flag; none while no flag came yet.
