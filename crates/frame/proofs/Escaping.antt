@@ -28,17 +28,13 @@ pair_first : (e v : ℕ) (raw : List ℕ) → stands_for e ≡ Some v → unesca
 unfolding unescaped
 pair_first e v raw h = ap (λ s. before s (unescaped raw)) h
 
-byte_back : (f t : Bool) (b : ℕ) (raw : List ℕ) → eqb b flag ≡ f → eqb b escape_byte ≡ t → unescaped (cond f (escape_byte ∷ 0x5E ∷ []) (cond t (escape_byte ∷ 0x5D ∷ []) (b ∷ [])) ++ raw) ≡ before (Some b) (unescaped raw)
-byte_back true t b raw f e = pair_first 0x5E flag raw refl ∙ ap (λ v. before (Some v) (unescaped raw)) (sym (eqb-true b flag f))
-byte_back false true b raw f e = pair_first 0x5D escape_byte raw refl ∙ ap (λ v. before (Some v) (unescaped raw)) (sym (eqb-true b escape_byte e))
-byte_back false false b raw f e = plain_first b raw e
+byte_back : (b : ℕ) (raw : List ℕ) → unescaped (escaped_byte b ++ raw) ≡ before (Some b) (unescaped raw)
+byte_back b raw = grind (arith, nat_tests, pair_first 0x5E flag raw refl, pair_first 0x5D escape_byte raw refl, plain_first b raw)
 
 pub undone : UnescapingUndoesEscaping
 unfolding unescaped
 undone [] = refl
-undone (b ∷ content) =
-    byte_back (eqb b flag) (eqb b escape_byte) b (escaped content) refl refl
-    ∙ ap (before (Some b)) (undone content)
+undone (b ∷ content) = byte_back b (escaped content) ∙ ap (before (Some b)) (undone content)
 
 byte_free : (b : ℕ) → FlagFree (escaped_byte b)
 byte_free b = grind (arith, nat_tests)
