@@ -3,7 +3,8 @@ use Rattle.std.proofs.Common.{◌≡◌, ℕ, ◌<◌, ◌≤◌, Bool, true, fa
 use Rattle.std.proofs.Math.Bool.{or-true, or-false}
 use Rattle.std.proofs.lemmas.List.{take-append-le}
 use Rattle.std.proofs.lemmas.List.Sums.{fold_push}
-use Rattle.std.proofs.lemmas.Bool.{ltb-true, ltb-false, lt-ltb, le-ltb}
+use Rattle.std.proofs.lemmas.Bool.{lt-ltb, le-ltb}
+use Rattle.std.proofs.lemmas.Bool.Decides.{nat_tests}
 use Rattle.frame.specs.declared.collector.Escapes.TheVariants.{Whole, Half, Bad}
 use Rattle.frame.specs.Collected.{Kept, kept, nothing, added, resolved, collect, kept_of, is_whole}
 use Rattle.frame.specs.Escapes.{escape_byte, stands_for, before, unescaped}
@@ -45,20 +46,10 @@ filled_full c o v cs full =
 abbrev Following : Option (List ℕ) → List ℕ → Type 0
 Following u rest = (c : List ℕ) (o : Bool) → length c ≤ longest → Leaves u c o (fold collect (kept c o Whole) rest)
 
-one_more_at : (t : Bool) (c : List ℕ) (o : Bool) (v : ℕ) (u : Option (List ℕ)) (rest : List ℕ) → ltb (length c) longest ≡ t → length c ≤ longest → Following u rest → Leaves (before (Some v) u) c o (fold collect (cond t (kept (c ++ v ∷ []) o Whole) (kept c true Whole)) rest)
-one_more_at true c o v None rest e few more =
-    let room : length (c ++ v ∷ []) ≤ longest = simp length-append (omega (arith, ltb-true (length c) longest e)) in
-    more (c ++ v ∷ []) o room
-one_more_at true c o v (Some cs) rest e few more =
-    let room : length (c ++ v ∷ []) ≤ longest = simp length-append (omega (arith, ltb-true (length c) longest e)) in
-    more (c ++ v ∷ []) o room ∙ filled_room c o v cs
-one_more_at false c o v None rest e few more = more c true few
-one_more_at false c o v (Some cs) rest e few more =
-    let full : length c ≡ longest = omega (arith, ltb-false (length c) longest e) in
-    more c true few ∙ filled_full c o v cs full
-
 one_more : (c : List ℕ) (o : Bool) (v : ℕ) (u : Option (List ℕ)) (rest : List ℕ) → length c ≤ longest → Following u rest → Leaves (before (Some v) u) c o (fold collect (added (kept c o Whole) v) rest)
-one_more c o v u rest few more = one_more_at (ltb (length c) longest) c o v u rest refl few more
+one_more c o v None rest few more = grind (arith, nat_tests, length-append {A = ℕ}, more (c ++ v ∷ []) o, more c true few)
+one_more c o v (Some cs) rest few more =
+    grind (arith, nat_tests, length-append {A = ℕ}, more (c ++ v ∷ []) o, more c true few, filled_room c o v cs, filled_full c o v cs)
 
 resolves : (s : Option ℕ) (c : List ℕ) (o : Bool) (u : Option (List ℕ)) (rest : List ℕ) → length c ≤ longest → Following u rest → Leaves (before s u) c o (fold collect (resolved (kept c o Half) s) rest)
 resolves None c o u rest few more = bad_stays rest c o

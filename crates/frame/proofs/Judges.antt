@@ -1,9 +1,9 @@
 -- What a collector keeps of a piece decides the verdict that the piece has, and where that is good its content. Assumes nothing.
 use Rattle.std.proofs.Common.{◌≡◌, ℕ, suc, ◌<◌, ◌≤◌, Bool, true, false, cond, not, eqb, ltb, List, [], ◌∷◌, length, take, is_some, Some, None, Option, unwrap_or, sym, refl, ap, ◌∙◌, arith, length-take, take_all}
-use Rattle.std.proofs.lemmas.Bool.{ltb-false, le-ltb, eq-eqb, ne_eqb}
+use Rattle.std.proofs.lemmas.Bool.{ne_eqb}
 use Rattle.std.proofs.lemmas.Bool.Decides.{nat_tests}
 use Rattle.frame.specs.declared.verdict.Verdict.{Verdict}
-use Rattle.frame.specs.declared.verdict.Verdict.TheVariants.{Empty, Escape, Long, Short, Check, Good}
+use Rattle.frame.specs.declared.verdict.Verdict.TheVariants.{Escape, Short, Check, Good}
 use Rattle.frame.specs.Collected.{Kept, kept_of, is_whole, judged}
 use Rattle.frame.specs.Escapes.{escape_byte, stands_for, before, unescaped}
 use Rattle.frame.specs.Verdicts.{longest, shortest, content_of, due, carried, verdict_by, verdict_of}
