@@ -65,8 +65,13 @@ impl Collector {
         ensures piece { (raw : List ℕ) → Collected raw self.old → Collected (raw ++ byte ∷ []) self.new }
     {
         match self.escapes {
-            Escapes::Whole if byte == ESCAPE => self.escapes = Escapes::Half,
-            Escapes::Whole => self.add(byte),
+            Escapes::Whole => {
+                if byte == ESCAPE {
+                    self.escapes = Escapes::Half;
+                } else {
+                    self.add(byte);
+                }
+            }
             Escapes::Half => self.resolve(byte),
             Escapes::Bad => {}
         }

@@ -32,11 +32,13 @@ impl Receiver {
         ensures hears { hearing self.new ≡ hear_on (hearing self.old) byte }
         ensures line { (line : Line) → Hears line self.old → Hears (hear line byte) self.new }
     {
-        match &mut self.piece {
-            Some(piece) if byte == FLAG => piece.clear(),
-            Some(piece) => piece.put(byte),
-            None if byte == FLAG => self.piece = Some(Collector::new()),
-            None => {}
+        if byte == FLAG {
+            match &mut self.piece {
+                Some(piece) => piece.clear(),
+                None => self.piece = Some(Collector::new()),
+            }
+        } else if let Some(piece) = &mut self.piece {
+            piece.put(byte);
         }
     }
 
