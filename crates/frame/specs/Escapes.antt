@@ -20,7 +20,7 @@ escaped_escape = 0x5D
 
 -- one byte of a content as it goes over the line: 7D 5E for the flag, 7D 5D for the escape byte, any other as it is
 abbrev pub escaped_byte : ℕ → List ℕ
-escaped_byte b = if b == flag then escape_byte ∷ escaped_flag ∷ [] else (if b == escape_byte then escape_byte ∷ escaped_escape ∷ [] else b ∷ [])
+escaped_byte b = if b == flag then escape_byte ∷ escaped_flag ∷ [] else if b == escape_byte then escape_byte ∷ escaped_escape ∷ [] else b ∷ []
 
 -- a whole content as it goes over the line
 abbrev pub escaped : List ℕ → List ℕ
@@ -28,7 +28,7 @@ escaped content = flat_map escaped_byte content
 
 -- the byte that 7D and this byte stand for; none where the escape is bad
 abbrev pub stands_for : ℕ → Option ℕ
-stands_for e = if e == escaped_flag then Some flag else (if e == escaped_escape then Some escape_byte else None)
+stands_for e = if e == escaped_flag then Some flag else if e == escaped_escape then Some escape_byte else None
 
 -- one byte before the rest of a content; none where either is none
 abbrev pub before : Option ℕ → Option (List ℕ) → Option (List ℕ)
