@@ -1,11 +1,12 @@
 -- Bytes with their own check bytes leave one constant, whatever the bytes. Assumes nothing.
 use Rattle.std.proofs.Common.{◌≡◌, ℕ, ◌/◌, ◌%◌, ◌^◌, [], ◌∷◌, ◌++◌, sym, refl, ap, ◌∙◌, append_assoc, arith}
-use lib.Bits.{bit_xor, xor_shr, xor_mod, xor_assoc, xor_comm, xor_self, xor_zero_r}
+use Rattle.std.specs.Int.Bits.{bit_xor, xor_shr, xor_mod, xor_assoc, xor_comm, xor_self, xor_zero_l, xor_zero_r}
+use Rattle.std.proofs.Math.Nat.{div-eq_of_lt, mod-mod}
 use Rattle.std.proofs.lemmas.Nat.{mod_below}
 use Rattle.std.proofs.lemmas.List.Sums.{fold_push}
 use Rattle.fcs.specs.Laws.{NineDigits, OwnCheckLeavesConstant}
 use Rattle.fcs.specs.Sum.{bit_step, eight_steps, step, register_of, fcs}
-use Rattle.fcs.proofs.Linear.{eight_steps_split, xor_swap, div_small}
+use Rattle.fcs.proofs.Linear.{eight_steps_split, xor_swap}
 
 pub nine_digits : NineDigits
 unfolding bit_step eight_steps step register_of fcs
@@ -13,10 +14,7 @@ nine_digits = refl
 
 -- what was put in comes out again
 xor_back : (a b : ℕ) → bit_xor a (bit_xor b a) ≡ b
-xor_back a b = ap (bit_xor a) (xor_comm b a) ∙ sym (xor_assoc a a b) ∙ ap (λ n. bit_xor n b) (xor_self a)
-
-mod_twice : (n : ℕ) → n % 2 ^ 8 % 2 ^ 8 ≡ n % 2 ^ 8
-mod_twice n = omega arith
+xor_back a b = cc (xor_comm b a, xor_assoc a a b, xor_self a, xor_zero_l b)
 
 constant : eight_steps (bit_xor (eight_steps 0xFF) 0xFF) ≡ 0xF0B8
 unfolding bit_step eight_steps
@@ -29,8 +27,8 @@ after_low r =
     let check = bit_xor 0xFFFF r % 2 ^ 8 in
     let small = mod_below (bit_xor 0xFFFF r) 256 (omega arith) in
     let high : bit_xor r check / 2 ^ 8 ≡ r / 2 ^ 8 =
-    xor_shr r check 8 ∙ ap (bit_xor (r / 2 ^ 8)) (div_small check small) ∙ xor_zero_r (r / 2 ^ 8) in
-    let inside : check % 2 ^ 8 ≡ bit_xor 0xFF (r % 2 ^ 8) = mod_twice (bit_xor 0xFFFF r) ∙ xor_mod 0xFFFF r 8 in
+    xor_shr r check 8 ∙ ap (bit_xor (r / 2 ^ 8)) (div-eq_of_lt small) ∙ xor_zero_r (r / 2 ^ 8) in
+    let inside : check % 2 ^ 8 ≡ bit_xor 0xFF (r % 2 ^ 8) = mod-mod (bit_xor 0xFFFF r) 256 ∙ xor_mod 0xFFFF r 8 in
     let low : bit_xor r check % 2 ^ 8 ≡ 0xFF = xor_mod r check 8 ∙ ap (bit_xor (r % 2 ^ 8)) inside ∙ xor_back (r % 2 ^ 8) 0xFF in
     eight_steps_split (bit_xor r check) ∙ (λ i. bit_xor (high i) (eight_steps (low i)))
 

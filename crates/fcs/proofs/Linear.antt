@@ -1,6 +1,7 @@
 -- The register's steps are linear, so that its high byte and its low byte may be taken one by one. Assumes nothing.
-use Rattle.std.proofs.Common.{◌≡◌, ℕ, ◌-◌, ◌*◌, ◌/◌, ◌%◌, ◌^◌, ◌<◌, cond, eqb, ◌⊎◌, sym, ap, ◌∙◌, inl, inr, arith}
-use lib.Bits.{bit_and, bit_xor, and_comm, and_mask, xor_add_and, xor_shr, xor_mod, xor_assoc, xor_comm, xor_zero_r, xor_shifted}
+use Rattle.std.proofs.Common.{◌≡◌, ℕ, ◌-◌, ◌*◌, ◌/◌, ◌%◌, ◌^◌, ◌<◌, cond, eqb, sym, ap, ◌∙◌, arith}
+use Rattle.std.specs.Int.Bits.{bit_and, bit_xor, and_comm, and_mask, xor_add_and, xor_shr, xor_mod, xor_assoc, xor_comm, xor_zero_r, xor_shifted}
+use Rattle.std.proofs.Math.Nat.{div-eq_of_lt, mod-eq_of_lt}
 use Rattle.std.proofs.lemmas.Nat.{mod_below, shr_split}
 use Rattle.fcs.specs.Sum.{polynomial, bit_step, eight_steps, step}
 
@@ -8,23 +9,11 @@ use Rattle.fcs.specs.Sum.{polynomial, bit_step, eight_steps, step}
 abbrev fed : ℕ → ℕ
 fed bit = cond (eqb bit 1) polynomial 0
 
-bit_cases : (n : ℕ) → n < 2 → (n ≡ 0) ⊎ (n ≡ 1)
-bit_cases n h = grind arith
-
-fed_by : (p q : ℕ) → (p ≡ 0) ⊎ (p ≡ 1) → (q ≡ 0) ⊎ (q ≡ 1) → fed (bit_xor p q) ≡ bit_xor (fed p) (fed q)
-fed_by p q (inl ep) (inl eq) = simp (ep, eq)
-fed_by p q (inl ep) (inr eq) = simp (ep, eq)
-fed_by p q (inr ep) (inl eq) = simp (ep, eq)
-fed_by p q (inr ep) (inr eq) = simp (ep, eq)
-
 fed-xor : (p q : ℕ) → p < 2 → q < 2 → fed (bit_xor p q) ≡ bit_xor (fed p) (fed q)
-fed-xor p q hp hq = fed_by p q (bit_cases p hp) (bit_cases q hq)
+fed-xor p q hp hq = grind arith
 
 pub xor_swap : (a b c d : ℕ) → bit_xor (bit_xor a b) (bit_xor c d) ≡ bit_xor (bit_xor a c) (bit_xor b d)
-xor_swap a b c d =
-    xor_assoc a b (bit_xor c d)
-    ∙ ap (bit_xor a) (sym (xor_assoc b c d) ∙ ap (λ n. bit_xor n d) (xor_comm b c) ∙ xor_assoc c b d)
-    ∙ sym (xor_assoc a c (bit_xor b d))
+xor_swap a b c d = cc (xor_assoc a b (bit_xor c d), xor_assoc b c d, xor_comm b c, xor_assoc c b d, xor_assoc a c (bit_xor b d))
 
 bit_step-xor : (x y : ℕ) → bit_step (bit_xor x y) ≡ bit_xor (bit_step x) (bit_step y)
 unfolding bit_step
@@ -57,23 +46,17 @@ eight_steps_split x =
     let parts = xor_shifted (x / 2 ^ 8) 8 (x % 2 ^ 8) (mod_below x 256 (omega arith)) ∙ shr_split x 8 in
     ap eight_steps (sym parts) ∙ eight_steps-xor (x / 2 ^ 8 * 2 ^ 8) (x % 2 ^ 8) ∙ ap (λ n. bit_xor n (eight_steps (x % 2 ^ 8))) (eight_steps_high (x / 2 ^ 8))
 
-mod_small : (n : ℕ) → n < 2 ^ 16 → n % 2 ^ 16 ≡ n
-mod_small n h = omega arith
-
-pub div_small : (n : ℕ) → n < 2 ^ 8 → n / 2 ^ 8 ≡ 0
-div_small n h = omega arith
-
 -- a step through the table is a step bit by bit
 pub step_table : (register byte entry : ℕ) → byte < 2 ^ 8 → entry ≡ eight_steps (bit_xor register byte % 2 ^ 8) → bit_xor (register / 2 ^ 8) entry ≡ step register byte
 unfolding step
 step_table register byte entry small read =
     let high : bit_xor register byte / 2 ^ 8 ≡ register / 2 ^ 8 =
-    xor_shr register byte 8 ∙ ap (bit_xor (register / 2 ^ 8)) (div_small byte small) ∙ xor_zero_r (register / 2 ^ 8) in
+    xor_shr register byte 8 ∙ ap (bit_xor (register / 2 ^ 8)) (div-eq_of_lt small) ∙ xor_zero_r (register / 2 ^ 8) in
     sym (eight_steps_split (bit_xor register byte) ∙ (λ i. bit_xor (high i) (sym read i)))
 
 -- the complement as the machine has it
 pub complement : (n : ℕ) → n < 2 ^ 16 → 0xFFFF - n ≡ bit_xor 0xFFFF n
 complement n small =
-    let mask : bit_and 0xFFFF n ≡ n = and_comm 0xFFFF n ∙ and_mask n 16 ∙ mod_small n small in
+    let mask : bit_and 0xFFFF n ≡ n = and_comm 0xFFFF n ∙ and_mask n 16 ∙ mod-eq_of_lt small in
     let sum = xor_add_and 0xFFFF n in
     omega arith

@@ -1,5 +1,5 @@
 -- FCS-16 bit by bit: what the check sequence of a row of bytes is. Assumes nothing.
-use Rattle.std.specs.Prelude.{◌≡◌, ℕ, ◌/◌, ◌%◌, ◌^◌, ◌<◌, cond, List, [], ◌∷◌, length, fold, ◌==◌, bit_xor, slice_index}
+use Rattle.std.specs.Prelude.{◌≡◌, ℕ, ◌/◌, ◌%◌, ◌^◌, ◌<◌, List, [], ◌∷◌, length, fold, ◌==◌, bit_xor, slice_index, if◌then◌else◌}
 
 -- the polynomial, its bits reversed, since the register is shifted toward the least significant bit
 abbrev pub polynomial : ℕ
@@ -7,7 +7,7 @@ polynomial = 0x8408
 
 -- one bit: the register is shifted right by one, and the polynomial is exclusive-ored in if the bit shifted out was 1
 unfoldable pub bit_step : ℕ → ℕ
-bit_step x = bit_xor (x / 2 ^ 1) (cond (x % 2 == 1) polynomial 0)
+bit_step x = bit_xor (x / 2 ^ 1) (if x % 2 == 1 then polynomial else 0)
 
 -- the eight bits of one byte
 unfoldable pub eight_steps : ℕ → ℕ

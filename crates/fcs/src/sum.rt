@@ -6,6 +6,7 @@ ghost use Rattle.fcs.specs.Sum.{step, fcs};
 use crate::table::fcs_table;
 
 // The register after one byte more.
+#[tactic(auto, using(crate::proofs::Linear::step_table, std::proofs::lemmas::Grind::common_steps))]
 fn next(register: u16, byte: u8) -> u16
     ensures { result ≡ step register byte }
 {

@@ -1,32 +1,21 @@
 -- Escaping, byte by byte and part by part, and back. Assumes nothing.
-use Rattle.std.proofs.Common.{◌≡◌, ℕ, ◌+◌, ◌<◌, ◌≤◌, Bool, true, false, cond, eqb, List, [], ◌∷◌, ◌++◌, length, get_or, take, drop, Some, None, sym, refl, ap, ◌∙◌, append_assoc, arith, length-append, take-append-drop}
+use Rattle.std.proofs.Common.{◌≡◌, ℕ, ◌+◌, ◌*◌, ◌<◌, sum_by, ◌≤◌, false, cond, eqb, List, [], ◌∷◌, ◌++◌, length, get_or, take, Some, None, refl, ap, ◌∙◌, arith}
 use Rattle.std.proofs.ByRecursion.{All-append}
-use Rattle.std.proofs.lemmas.List.{take_more}
-use Rattle.std.proofs.lemmas.Bool.{eqb-true, eqb-false, ne_eqb}
+use Rattle.std.proofs.lemmas.Grind.{common_steps}
+use Rattle.std.proofs.lemmas.List.Sums.{sum_by-le}
+use Rattle.std.proofs.lemmas.Bool.Decides.{nat_tests}
 use Rattle.frame.specs.Escapes.{flag, escape_byte, escaped_byte, escaped, stands_for, before, unescaped}
 use Rattle.frame.specs.Laws.{FlagFree, UnescapingUndoesEscaping, EscapedHoldsNoFlag}
 
-pub plain_byte : (b : ℕ) → (b ≡ flag → ⊥) → (b ≡ escape_byte → ⊥) → escaped_byte b ≡ b ∷ []
-plain_byte b f e = ap (λ t. cond t (escape_byte ∷ 0x5E ∷ []) (cond (eqb b escape_byte) (escape_byte ∷ 0x5D ∷ []) (b ∷ []))) (ne_eqb b flag f) ∙ ap (λ t. cond t (escape_byte ∷ 0x5D ∷ []) (b ∷ [])) (ne_eqb b escape_byte e)
-
-pub escaped-append : (xs ys : List ℕ) → escaped (xs ++ ys) ≡ escaped xs ++ escaped ys
-escaped-append [] ys = refl
-escaped-append (x ∷ xs) ys = ap (λ l. escaped_byte x ++ l) (escaped-append xs ys) ∙ sym (append_assoc (escaped_byte x) (escaped xs) (escaped ys))
-
-one_escaped : (b : ℕ) → escaped (b ∷ []) ≡ escaped_byte b
-one_escaped b = mathlib.Core.List.append-nil (escaped_byte b)
-
 pub escaped_more : (bytes : List ℕ) (i : ℕ) → i < length bytes → escaped (take (i + 1) bytes) ≡ escaped (take i bytes) ++ escaped_byte (get_or bytes i 0)
-escaped_more bytes i within =
-    ap escaped (take_more bytes i 0 within)
-    ∙ escaped-append (take i bytes) (get_or bytes i 0 ∷ [])
-    ∙ ap (λ l. escaped (take i bytes) ++ l) (one_escaped (get_or bytes i 0))
+escaped_more bytes i within = grind (arith, common_steps)
 
--- the front of the bytes takes no more room than the whole
-pub escaped_front : (bytes : List ℕ) (n : ℕ) → length (escaped (take n bytes)) ≤ length (escaped bytes)
-escaped_front bytes n =
-    let whole = ap length (ap escaped (sym (take-append-drop n bytes)) ∙ escaped-append (take n bytes) (drop n bytes)) in
-    omega (arith, whole, length-append (escaped (take n bytes)) (escaped (drop n bytes)))
+byte_at_most_two : (b : ℕ) → length (escaped_byte b) ≤ 2
+byte_at_most_two b = grind (arith, nat_tests)
+
+-- so the length of a slice on the line fits into a machine's word
+pub at_most_two : (bytes : List ℕ) → sum_by (λ x. length (escaped_byte x)) bytes ≤ length bytes * 2
+at_most_two bytes = sum_by-le (λ x. length (escaped_byte x)) 2 bytes (λ k d h. byte_at_most_two (get_or bytes k d))
 
 -- a byte that begins no escape stands for itself
 plain_first : (b : ℕ) (raw : List ℕ) → eqb b escape_byte ≡ false → unescaped (b ∷ raw) ≡ before (Some b) (unescaped raw)
@@ -38,25 +27,17 @@ pair_first : (e v : ℕ) (raw : List ℕ) → stands_for e ≡ Some v → unesca
 unfolding unescaped
 pair_first e v raw h = ap (λ s. before s (unescaped raw)) h
 
-byte_back : (f t : Bool) (b : ℕ) (raw : List ℕ) → eqb b flag ≡ f → eqb b escape_byte ≡ t → unescaped (cond f (escape_byte ∷ 0x5E ∷ []) (cond t (escape_byte ∷ 0x5D ∷ []) (b ∷ [])) ++ raw) ≡ before (Some b) (unescaped raw)
-byte_back true t b raw f e = pair_first 0x5E flag raw refl ∙ ap (λ v. before (Some v) (unescaped raw)) (sym (eqb-true b flag f))
-byte_back false true b raw f e = pair_first 0x5D escape_byte raw refl ∙ ap (λ v. before (Some v) (unescaped raw)) (sym (eqb-true b escape_byte e))
-byte_back false false b raw f e = plain_first b raw e
+byte_back : (b : ℕ) (raw : List ℕ) → unescaped (escaped_byte b ++ raw) ≡ before (Some b) (unescaped raw)
+byte_back b raw = grind (arith, nat_tests, pair_first 0x5E flag raw refl, pair_first 0x5D escape_byte raw refl, plain_first b raw)
 
 pub undone : UnescapingUndoesEscaping
 unfolding unescaped
 undone [] = refl
-undone (b ∷ content) =
-    byte_back (eqb b flag) (eqb b escape_byte) b (escaped content) refl refl
-    ∙ ap (before (Some b)) (undone content)
+undone (b ∷ content) = byte_back b (escaped content) ∙ ap (before (Some b)) (undone content)
 
-byte_free : (f t : Bool) (b : ℕ) → eqb b flag ≡ f → FlagFree (cond f (escape_byte ∷ 0x5E ∷ []) (cond t (escape_byte ∷ 0x5D ∷ []) (b ∷ [])))
-byte_free true t b f = (λ h. omega arith, (λ h. omega arith, tt))
-byte_free false true b f = (λ h. omega arith, (λ h. omega arith, tt))
-byte_free false false b f = (eqb-false b flag f, tt)
+byte_free : (b : ℕ) → FlagFree (escaped_byte b)
+byte_free b = grind (arith, nat_tests)
 
 pub flag_free : EscapedHoldsNoFlag
 flag_free [] = tt
-flag_free (b ∷ content) =
-    All-append (λ x. x ≡ flag → ⊥) (escaped_byte b) (escaped content)
-    (byte_free (eqb b flag) (eqb b escape_byte) b refl) (flag_free content)
+flag_free (b ∷ content) = All-append (λ x. x ≡ flag → ⊥) (escaped_byte b) (escaped content) (byte_free b) (flag_free content)

@@ -1,44 +1,42 @@
 -- A frame written part by part, read back, and told from every other frame. Assumes nothing.
-use Rattle.std.proofs.Common.{◌≡◌, ℕ, ◌+◌, ◌-◌, ◌*◌, ◌^◌, ◌≤◌, Bool, cond, leb, List, [], ◌∷◌, ◌++◌, length, get_or, take, Some, fold, unwrap_or, sym, refl, ap, ◌∙◌, append_assoc, arith, length-append}
+use Rattle.std.proofs.Common.{◌≡◌, ℕ, ◌+◌, ◌-◌, ◌*◌, ◌^◌, ◌≤◌, cond, if◌then◌else◌, List, [], ◌∷◌, ◌++◌, length, get_or, take, Some, fold, unwrap_or, sym, refl, ap, ◌∙◌, append_assoc, arith, length-append}
 use Rattle.std.proofs.lemmas.Nat.{div-add-mod'}
 use Rattle.std.proofs.lemmas.List.{take_at, get_or-append-add, same_from_push}
-use Rattle.std.proofs.lemmas.Bool.{ne_eqb}
+use Rattle.std.proofs.lemmas.Bool.{cond-true, le-leb, ne_eqb}
+use Rattle.std.proofs.lemmas.Grind.{flat_map-append}
 use Rattle.std.proofs.lemmas.List.Sums.{fold_push}
 use Rattle.fcs.specs.Sum.{fcs, check_bytes}
 use Rattle.frame.specs.declared.verdict.Verdict.TheVariants.{Good}
-use Rattle.frame.specs.Escapes.{flag, escaped, unescaped}
+use Rattle.frame.specs.declared.cursor.Cursor.{Cursor}
+use Rattle.frame.specs.Cursors.{Puts}
+use Rattle.frame.specs.Escapes.{flag, escaped_byte, escaped, unescaped}
 use Rattle.frame.specs.Frames.{checked, body_of, frame_of}
 use Rattle.frame.specs.Laws.{FlagFree, FramesComeBack, EqualFramesHaveEqualMessages, FrameLaws}
-use Rattle.frame.specs.Lines.{Line, waiting, since, hear, heard}
+use Rattle.frame.specs.Lines.{Line, since, hear, heard}
 use Rattle.frame.specs.Verdicts.{due, carried, verdict_of}
 use Rattle.frame.specs.Written.{fits_into, written}
-use Rattle.frame.proofs.Escaping.{escaped-append, undone, flag_free}
+use Rattle.frame.proofs.Escaping.{undone, flag_free}
 use Rattle.frame.proofs.Judges.{good_content}
-use Rattle.frame.proofs.Writes.{written_more}
+use Rattle.frame.proofs.Cursors.{puts_more}
 
 -- writing
 
 pub frame_parts : (message : List ℕ) → frame_of message ≡ flag ∷ ((escaped message ++ escaped (check_bytes message)) ++ flag ∷ [])
 unfolding frame_of body_of
-frame_parts message = ap (λ l. flag ∷ (l ++ flag ∷ [])) (escaped-append message (check_bytes message))
+frame_parts message = ap (λ l. flag ∷ (l ++ flag ∷ [])) (flat_map-append escaped_byte message (check_bytes message))
 
 pub frame_length : (message : List ℕ) → length (frame_of message) ≡ length (escaped message) + length (escaped (check_bytes message)) + 2
 frame_length message =
     ap length (frame_parts message)
     ∙ simp length-append (omega arith)
 
-pub fits_frame : (message check out : List ℕ) (r : Bool) → check ≡ check_bytes message → r ≡ leb (length (escaped message) + length (escaped check) + 2) (length out) → r ≡ fits_into (frame_of message) out
-fits_frame message check out r e told =
-    told ∙ ap (λ n. leb n (length out)) (ap (λ l. length (escaped message) + length (escaped l) + 2) e ∙ sym (frame_length message))
-
--- the four parts of a frame, each written right after the one before
-pub write_parts : (old o1 o2 o3 body tail : List ℕ) (p q : ℕ) → o1 ≡ written old 0 (flag ∷ []) → o2 ≡ written o1 1 body → p ≡ 1 + length body → o3 ≡ written o2 p tail → q ≡ p + length tail → written o3 q (flag ∷ []) ≡ written old 0 (flag ∷ ((body ++ tail) ++ flag ∷ []))
-write_parts old o1 o2 o3 body tail p q e1 e2 ep e3 eq =
-    let first : o2 ≡ written old 0 (flag ∷ body) = e2 ∙ ap (λ l. written l 1 body) e1 ∙ written_more old 0 (flag ∷ []) body (omega arith) in
-    let at2 : p ≡ 0 + length (flag ∷ body) = omega arith in
-    let second : o3 ≡ written old 0 (flag ∷ (body ++ tail)) = e3 ∙ (λ i. written (first i) (at2 i) tail) ∙ written_more old 0 (flag ∷ body) tail (omega arith) in
-    let at3 : q ≡ 0 + length (flag ∷ (body ++ tail)) = omega (arith, length-append body tail) in
-    (λ i. written (second i) (at3 i) (flag ∷ [])) ∙ written_more old 0 (flag ∷ (body ++ tail)) (flag ∷ []) (omega arith)
+-- the four parts of a frame, put one after another from the buffer's start on
+pub puts_frame : {a b c d e : Cursor} {end : List ℕ} (message check : List ℕ) → Puts a b (flag ∷ []) → Puts b c (escaped message) → Puts c d (escaped check) → Puts d e (flag ∷ []) → check ≡ check_bytes message → a.at ≡ 0 → length (frame_of message) ≤ length a.out.now → end ≡ e.out.now → end ≡ (if fits_into (frame_of message) a.out.now then written a.out.now 0 (frame_of message) else a.out.now)
+puts_frame {a} message check opened first second closed is start room ends =
+    let within : a.at ≤ length a.out.now = omega arith in
+    let whole = puts_more (puts_more (puts_more opened first within) second within) closed within in
+    let parts = ap (λ l. flag ∷ ((escaped message ++ escaped l) ++ flag ∷ [])) is ∙ sym (frame_parts message) in
+    ends ∙ whole.buffer ∙ (λ i. written a.out.now (start i) (parts i)) ∙ sym (cond-true _ _ _ (le-leb _ _ room))
 
 -- reading back
 
@@ -51,8 +49,7 @@ flags_out (b ∷ raw) acc free =
 
 -- a flag opens a piece, whatever the line was
 flag_opens : (before : Line) (raw : List ℕ) → heard before (flag ∷ raw) ≡ heard (since []) raw
-flag_opens waiting raw = refl
-flag_opens (since old) raw = refl
+flag_opens before raw = refl
 
 checked-length : (message : List ℕ) → length (checked message) ≡ length message + 2
 checked-length message = length-append message (check_bytes message)

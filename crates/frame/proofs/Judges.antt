@@ -1,8 +1,9 @@
 -- What a collector keeps of a piece decides the verdict that the piece has, and where that is good its content. Assumes nothing.
 use Rattle.std.proofs.Common.{◌≡◌, ℕ, suc, ◌<◌, ◌≤◌, Bool, true, false, cond, not, eqb, ltb, List, [], ◌∷◌, length, take, is_some, Some, None, Option, unwrap_or, sym, refl, ap, ◌∙◌, arith, length-take, take_all}
-use Rattle.std.proofs.lemmas.Bool.{ltb-false, le-ltb, eq-eqb, ne_eqb}
+use Rattle.std.proofs.lemmas.Bool.{ne_eqb}
+use Rattle.std.proofs.lemmas.Bool.Decides.{nat_tests}
 use Rattle.frame.specs.declared.verdict.Verdict.{Verdict}
-use Rattle.frame.specs.declared.verdict.Verdict.TheVariants.{Empty, Escape, Long, Short, Check, Good}
+use Rattle.frame.specs.declared.verdict.Verdict.TheVariants.{Escape, Short, Check, Good}
 use Rattle.frame.specs.Collected.{Kept, kept_of, is_whole, judged}
 use Rattle.frame.specs.Escapes.{escape_byte, stands_for, before, unescaped}
 use Rattle.frame.specs.Verdicts.{longest, shortest, content_of, due, carried, verdict_by, verdict_of}
@@ -56,28 +57,18 @@ good_content [] cs e low high right =
     let none : [] ≡ cs = cc in
     absurd (omega (arith, ap length none))
 good_content (b ∷ raw) cs e low high right =
-    with_byte b raw (Some cs) e
-    ∙ ap (λ t. cond t Long (fitting cs)) (le-ltb longest (length cs) high)
-    ∙ ap (λ t. cond t Short (cond (not (eqb (due cs) (carried cs))) Check Good)) (le-ltb (length cs) shortest low)
-    ∙ ap (λ t. cond (not t) Check Good) (eq-eqb (due cs) (carried cs) right)
+    with_byte b raw (Some cs) e ∙ grind (arith, nat_tests)
 
 front_some : (cs : List ℕ) → 0 < length cs → eqb (length (take longest cs)) 0 ≡ false
 front_some cs some = ne_eqb (length (take longest cs)) 0 (λ h. omega (arith, length-take longest cs))
 
 -- a content that was cut off is long, and any other is judged as it is
-judges_at : (t : Bool) (cs : List ℕ) → ltb longest (length cs) ≡ t → 0 < length cs → verdict_by (eqb (length (take longest cs)) 0) false t (take longest cs) ≡ verdict_for false (Some cs)
-judges_at true cs e some = ap (λ t. cond t Empty Long) (front_some cs some) ∙ sym (ap (λ t. cond t Long (fitting cs)) e)
-judges_at false cs e some =
-    let all = take_all longest cs (ltb-false longest (length cs) e) in
-    (λ i. cond (front_some cs some i) Empty (fitting (all i))) ∙ sym (ap (λ t. cond t Long (fitting cs)) e)
+judges_at : (cs : List ℕ) → 0 < length cs → verdict_by (eqb (length (take longest cs)) 0) false (ltb longest (length cs)) (take longest cs) ≡ verdict_for false (Some cs)
+judges_at cs some = grind (arith, nat_tests, front_some cs some, take_all longest cs)
 
 -- a good content was not cut off
-good_whole : (t : Bool) (cs : List ℕ) → ltb longest (length cs) ≡ t → verdict_for false (Some cs) ≡ Good → take longest cs ≡ cs
-good_whole true cs e good =
-    let long : verdict_for false (Some cs) ≡ Long = ap (λ t. cond t Long (fitting cs)) e in
-    let z : ◌≡◌ {A = ℕ} 0 1 = cc in
-    absurd (omega arith)
-good_whole false cs e good = take_all longest cs (ltb-false longest (length cs) e)
+good_whole : (cs : List ℕ) → verdict_for false (Some cs) ≡ Good → take longest cs ≡ cs
+good_whole cs good = grind (arith, nat_tests, take_all longest cs)
 
 judges : (b : ℕ) (raw : List ℕ) (u : Option (List ℕ)) (k : Kept) → unescaped (b ∷ raw) ≡ u → SomeByte u → Leaves u [] false k → Decided (b ∷ raw) k
 judges b raw None k e some left = record {
@@ -85,10 +76,10 @@ judges b raw None k e some left = record {
   content = λ good. let bad = with_byte b raw None e in let z : ◌≡◌ {A = ℕ} 0 1 = cc in absurd (omega arith);
 }
 judges b raw (Some cs) k e some left = record {
-  verdict = ap judged left ∙ judges_at (ltb longest (length cs)) cs refl some ∙ sym (with_byte b raw (Some cs) e);
+  verdict = ap judged left ∙ judges_at cs some ∙ sym (with_byte b raw (Some cs) e);
   content = λ good.
       ap (λ (j : Kept). j.content) left
-      ∙ good_whole (ltb longest (length cs)) cs refl (sym (with_byte b raw (Some cs) e) ∙ good)
+      ∙ good_whole cs (sym (with_byte b raw (Some cs) e) ∙ good)
       ∙ sym (ap (λ u. unwrap_or u []) e);
 }
 

@@ -1,5 +1,6 @@
 -- The lemmas that several proofs share of `frame`.
 pub mod Collects
+pub mod Cursors
 pub mod Escaping
 pub mod Following
 pub mod Framing

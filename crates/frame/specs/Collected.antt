@@ -1,5 +1,5 @@
 -- What a collector keeps of the bytes since a flag, and what follows from that alone. Assumes nothing.
-use Rattle.std.specs.Prelude.{◌≡◌, ℕ, Bool, true, false, cond, List, [], ◌∷◌, ◌++◌, length, Some, None, fold, Option, ◌==◌, nat_lt}
+use Rattle.std.specs.Prelude.{◌≡◌, ℕ, Bool, true, false, List, [], ◌∷◌, ◌++◌, length, Some, None, fold, Option, ◌==◌, nat_lt, if◌then◌else◌}
 use Rattle.frame.specs.declared.collector.Collector.{Collector}
 use Rattle.frame.specs.declared.collector.Escapes.{Escapes}
 use Rattle.frame.specs.declared.collector.Escapes.TheVariants.{Whole, Half, Bad}
@@ -28,23 +28,23 @@ abbrev pub nothing : Kept
 nothing = kept [] false Whole
 
 -- one byte more of the content: it is kept, or where 125 are kept already it is only noted
-abbrev pub added : List ℕ → Bool → ℕ → Kept
-added content over b = cond (nat_lt (length content) longest) (kept (content ++ b ∷ []) over Whole) (kept content true Whole)
+abbrev pub added : Kept → ℕ → Kept
+added k b = if nat_lt (length k.content) longest then kept (k.content ++ b ∷ []) k.over Whole else kept k.content true Whole
 
 -- the byte that an escape stands for is added; a bad escape is noted
-abbrev pub resolved : List ℕ → Bool → Option ℕ → Kept
-resolved content over None = kept content over Bad
-resolved content over (Some b) = added content over b
+abbrev pub resolved : Kept → Option ℕ → Kept
+resolved k None = kept k.content k.over Bad
+resolved k (Some b) = added k b
 
 -- one byte more from the line, by how the escapes stand
-abbrev pub after : Escapes → List ℕ → Bool → ℕ → Kept
-after Whole content over b = cond (b == escape_byte) (kept content over Half) (added content over b)
-after Half content over b = resolved content over (stands_for b)
-after Bad content over b = kept content over Bad
+abbrev pub after : Escapes → Kept → ℕ → Kept
+after Whole k b = if b == escape_byte then kept k.content k.over Half else added k b
+after Half k b = resolved k (stands_for b)
+after Bad k b = k
 
 -- one byte more from the line
 abbrev pub collect : Kept → ℕ → Kept
-collect k b = after k.escapes k.content k.over b
+collect k b = after k.escapes k b
 
 -- what is kept after the bytes of a piece
 unfoldable pub kept_of : List ℕ → Kept
@@ -58,7 +58,7 @@ is_whole Bad = false
 
 -- the verdict, from what is kept: no byte came where the escapes are right and there is no content
 abbrev pub judged : Kept → Verdict
-judged k = cond (is_whole k.escapes) (verdict_by (length k.content == 0) false k.over k.content) Escape
+judged k = if is_whole k.escapes then verdict_by (length k.content == 0) false k.over k.content else Escape
 
 -- the collector is one that these bytes since a flag leave
 abbrev pub Collected : List ℕ → Collector → Type 0

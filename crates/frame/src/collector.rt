@@ -1,14 +1,16 @@
 // Collects a piece byte by byte, undoing its escapes, and judges it.
-ghost use Rattle.std.specs.Prelude.{◌≡◌, ℕ, ◌≤◌, false, List, [], ◌∷◌, ◌++◌, length, ◌==◌};
-ghost use Rattle.frame.specs.Collected.{kept_by, nothing, added, resolved, collect, judged, Collected};
+ghost use Rattle.std.specs.Prelude.{◌≡◌, ℕ, ◌≤◌, List, [], ◌∷◌, ◌++◌, length, ◌==◌};
+ghost use Rattle.frame.specs.Collected.{kept, kept_by, nothing, added, resolved, collect, judged, Collected};
 ghost use Rattle.frame.specs.Contents.{bytes_of};
 ghost use Rattle.frame.specs.Escapes.{stands_for};
-ghost use Rattle.frame.specs.Verdicts.{content_of, due, carried, verdict_by, verdict_of};
+ghost use Rattle.frame.specs.Verdicts.{shortest, content_of, due, carried, verdict_of};
+ghost use Rattle.frame.specs.declared.collector.Escapes.TheVariants.{Whole};
 ghost use Rattle.frame.specs.declared.verdict.Verdict.TheVariants.{Good};
 
+use crate::SHORTEST;
 use crate::content::Content;
+use crate::escape::{ESCAPE, stands_for};
 use crate::verdict::Verdict;
-use crate::{ESCAPE, ESCAPED_ESCAPE, ESCAPED_FLAG, FLAG, SHORTEST};
 use fcs::fcs16;
 
 // How the escapes stand in the bytes so far.
@@ -22,16 +24,18 @@ enum Escapes {
     Bad,
 }
 
+// Clauses see it through `kept_by`: a `Copy` type that holds a content cannot have an `impl Model`, for the reason that stands there.
 #[derive(Clone, Copy)]
 pub struct Collector {
     content: Content,
-    // More content came than is kept.
+    // More content came than is kept. It is no `Option`: there is a content either way, and under each of the three escapes.
     over: bool,
     escapes: Escapes,
 }
 
 impl Collector {
     // A piece of which no byte has come.
+    #[tactic(auto, unfolding(crate::specs::Collected::kept_of))]
     pub fn new() -> Collector
         ensures keeps { kept_by result ≡ nothing }
         ensures piece { Collected [] result }
@@ -44,6 +48,7 @@ impl Collector {
     }
 
     // Drops all that was collected: the next byte is the first of a piece.
+    #[tactic(auto, unfolding(crate::specs::Collected::kept_of))]
     pub fn clear(&mut self)
         ensures keeps { kept_by self.new ≡ nothing }
         ensures piece { Collected [] self.new }
@@ -54,6 +59,7 @@ impl Collector {
     }
 
     // Takes the next byte of the piece.
+    #[tactic(auto, unfolding(crate::specs::Collected::kept_of))]
     pub fn put(&mut self, byte: u8)
         ensures keeps { kept_by self.new ≡ collect (kept_by self.old) byte }
         ensures piece { (raw : List ℕ) → Collected raw self.old → Collected (raw ++ byte ∷ []) self.new }
@@ -73,26 +79,26 @@ impl Collector {
 
     // Takes the second byte of an escape.
     fn resolve(&mut self, byte: u8)
-        ensures { kept_by self.new ≡ resolved (bytes_of self.old.content) self.old.over (stands_for byte) }
+        ensures { kept_by self.new ≡ resolved (kept_by self.old) (stands_for byte) }
     {
-        match byte {
-            ESCAPED_FLAG => self.add(FLAG),
-            ESCAPED_ESCAPE => self.add(ESCAPE),
-            _ => self.escapes = Escapes::Bad,
+        match stands_for(byte) {
+            Some(byte) => self.add(byte),
+            None => self.escapes = Escapes::Bad,
         }
     }
 
     // Adds a byte to the content, or notes that the content is too long. Either way no escape is open.
     fn add(&mut self, byte: u8)
-        ensures { kept_by self.new ≡ added (bytes_of self.old.content) self.old.over byte }
+        ensures { kept_by self.new ≡ added (kept_by self.old) byte }
     {
         self.escapes = Escapes::Whole;
-        if !self.content.push(byte) {
+        if self.content.push(byte).is_err() {
             self.over = true;
         }
     }
 
     // The verdict, should the piece end here.
+    #[tactic(auto, using(crate::proofs::Pieces::piece_verdict))]
     pub fn verdict(&self) -> Verdict
         ensures keeps { result ≡ judged (kept_by self.now) }
         ensures piece { (raw : List ℕ) → Collected raw self.now → result ≡ verdict_of raw }
@@ -105,7 +111,7 @@ impl Collector {
 
     // The verdict where every escape is right.
     fn verdict_on_content(&self) -> Verdict
-        ensures { result ≡ verdict_by (length (bytes_of self.now.content) == 0) false self.now.over (bytes_of self.now.content) }
+        ensures { result ≡ judged (kept (bytes_of self.now.content) self.now.over Whole) }
     {
         let content = self.content();
         if content.is_empty() {
@@ -122,6 +128,7 @@ impl Collector {
     }
 
     // The content, as far as it was collected.
+    #[tactic(auto, using(crate::proofs::Pieces::piece_content))]
     pub fn content(&self) -> &[u8]
         ensures keeps { result.now ≡ (kept_by self.now).content }
         ensures piece { (raw : List ℕ) → Collected raw self.now → verdict_of raw ≡ Good → result.now ≡ content_of raw }
@@ -132,10 +139,10 @@ impl Collector {
 
 // Whether the last two bytes, the low byte first, are the check sequence of those before them.
 fn carries_its_check(content: &[u8]) -> bool
-    requires { 2 ≤ length content.now }
-    ensures { result ≡ (due content.now == carried content.now) }
+    ensures { shortest ≤ length content.now → result ≡ (due content.now == carried content.now) }
 {
-    let n = content.len();
-    let sent = u16::from_le_bytes([content[n - 2], content[n - 1]]);
-    fcs16(&content[0..n - 2]) == sent
+    match content {
+        [message @ .., low, high] => fcs16(message) == u16::from_le_bytes([*low, *high]),
+        _ => false,
+    }
 }

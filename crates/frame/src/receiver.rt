@@ -1,7 +1,7 @@
 // The receiving end of a line: waits for a first flag, then collects piece after piece.
 ghost use Rattle.std.specs.Prelude.{◌≡◌, ℕ, List, []};
 ghost use Rattle.frame.specs.Laws.{ReceiverLaws};
-ghost use Rattle.frame.specs.Lines.{Line, waiting, since, hear, verdict_at, hearing, silent, hear_on, closes, Hears};
+ghost use Rattle.frame.specs.Lines.{Line, waiting, since, hear, verdict_at, hearing, silent, hear_on, closes, content_kept, Hears};
 ghost use Rattle.frame.specs.Verdicts.{content_of, verdict_of};
 ghost use Rattle.frame.specs.declared.verdict.Verdict.TheVariants.{Good};
 
@@ -9,24 +9,22 @@ use crate::FLAG;
 use crate::collector::Collector;
 use crate::verdict::Verdict;
 
+// Clauses see it through `hearing`, as they see its piece through `kept_by`.
 #[derive(Clone, Copy)]
 pub struct Receiver {
-    // No flag came yet.
-    waiting: bool,
-    piece: Collector,
+    // The piece since the last flag; none while no flag came yet.
+    piece: Option<Collector>,
 }
 
 impl Receiver {
     // A receiver that waits for a first flag.
+    #[tactic(auto, using(crate::proofs::Following::receiver_laws))]
     pub fn new() -> Receiver
         ensures hears { hearing result ≡ silent }
         ensures line { Hears waiting result }
         ensures laws { ReceiverLaws }
     {
-        Receiver {
-            waiting: true,
-            piece: Collector::new(),
-        }
+        Receiver { piece: None }
     }
 
     // Takes one byte from the line. A flag ends whatever was collected and begins a new piece.
@@ -35,10 +33,12 @@ impl Receiver {
         ensures line { (line : Line) → Hears line self.old → Hears (hear line byte) self.new }
     {
         if byte == FLAG {
-            self.waiting = false;
-            self.piece.clear();
-        } else if !self.waiting {
-            self.piece.put(byte);
+            match &mut self.piece {
+                Some(piece) => piece.clear(),
+                None => self.piece = Some(Collector::new()),
+            }
+        } else if let Some(piece) = &mut self.piece {
+            piece.put(byte);
         }
     }
 
@@ -47,19 +47,15 @@ impl Receiver {
         ensures hears { result ≡ closes (hearing self.now) }
         ensures line { (line : Line) → Hears line self.now → result ≡ verdict_at line }
     {
-        if self.waiting {
-            None
-        } else {
-            Some(self.piece.verdict())
-        }
+        self.piece.as_ref().map(|piece| piece.verdict())
     }
 
     // The content of the piece, as far as it was collected; no byte while it waits.
     pub fn content(&self) -> &[u8]
-        ensures hears { result.now ≡ (hearing self.now).kept.content }
+        ensures hears { result.now ≡ content_kept (hearing self.now) }
         ensures silent { Hears waiting self.now → result.now ≡ [] }
         ensures line { (raw : List ℕ) → Hears (since raw) self.now → verdict_of raw ≡ Good → result.now ≡ content_of raw }
     {
-        self.piece.content()
+        self.piece.as_ref().map_or(&[], |piece| piece.content())
     }
 }

@@ -1,6 +1,7 @@
 // The verdict on a piece, the run of bytes between two flags.
 
 // In the order in which they are tried: the first that fits is the verdict.
+// No `Result` with five errors: the piece call has a status for each of the six, the good one among them.
 #[derive(Clone, Copy, PartialEq, Eq, Debug)]
 pub enum Verdict {
     // No byte at all.

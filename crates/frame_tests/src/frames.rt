@@ -3,7 +3,6 @@ use frame::FLAG;
 use frame::receiver::Receiver;
 use frame::verdict::Verdict;
 use frame::writer::write_frame;
-use std::process::Abort;
 use std::test::Fail;
 
 // A message and its frame.
@@ -30,25 +29,25 @@ fn give(receiver: &mut Receiver, bytes: &[u8]) {
     }
 }
 
-// Whether a flag would close a piece with this verdict now.
-fn closes(receiver: &Receiver, verdict: Verdict) -> bool {
-    receiver.closing() == Some(verdict)
+// A frame but for its closing flag: what a receiver has heard when it can judge the piece.
+fn unclosed(frame: &[u8]) -> Result<&[u8], Fail> {
+    Ok(frame.strip_suffix(&[FLAG]).ok_or("no closing flag")?)
 }
 
 #[test]
-fn frames_there_and_back(rt: HostRuntime) {
+fn frames_there_and_back(rt: HostRuntime) -> Result<(), Fail> {
     for (message, frame) in EXAMPLES {
         let mut out = [0xee; 16];
         assert_eq!(rt; write_frame(message, &mut out), Some(frame.len()));
-        assert!(rt; 0 < frame.len() && frame.len() < 16);
-        assert_eq!(rt; &out[0..frame.len()], frame);
+        assert!(rt; out.starts_with(frame));
         assert!(rt; out[15] == 0xee);
         let mut receiver = Receiver::new();
-        give(&mut receiver, &frame[0..frame.len() - 1]);
-        assert!(rt; closes(&receiver, Verdict::Good));
+        give(&mut receiver, unclosed(frame)?);
+        assert_eq!(rt; receiver.closing(), Some(Verdict::Good));
         assert!(rt; receiver.content().starts_with(message));
-        assert!(rt; receiver.content().len() == message.len() + 2);
+        assert_eq!(rt; receiver.content().len(), message.len() + 2);
     }
+    Ok(())
 }
 
 #[test]
@@ -59,30 +58,32 @@ fn a_frame_that_does_not_fit(rt: HostRuntime) {
 }
 
 // Writes a message of `count` bytes of `fill` as a frame and gives it to a receiver, all but the closing flag.
-fn sent(rt: &impl Abort, count: usize, fill: u8) -> Result<Receiver, Fail> {
+fn sent(count: usize, fill: u8) -> Result<Receiver, Fail> {
     let message = [fill; 124];
-    assert!(rt; count <= 124);
-    let mut frame = [0; 256];
-    let length = write_frame(&message[0..count], &mut frame).ok_or("no room")?;
-    assert!(rt; 0 < length && length <= 256);
+    let message = message
+        .get(..count)
+        .ok_or("a message of more than 124 bytes")?;
+    let mut out = [0; 256];
+    let length = write_frame(message, &mut out).ok_or("no room")?;
+    let frame = out.get(..length).ok_or("more than the buffer holds")?;
     let mut receiver = Receiver::new();
-    give(&mut receiver, &frame[0..length - 1]);
+    give(&mut receiver, unclosed(frame)?);
     Ok(receiver)
 }
 
 #[test]
 fn longest_content(rt: HostRuntime) -> Result<(), Fail> {
     for fill in [0x00, 0x7e, 0x7d] {
-        let receiver = sent(&rt, 123, fill)?;
-        assert!(rt; closes(&receiver, Verdict::Good));
-        assert!(rt; receiver.content().len() == 125);
-        let mut receiver = sent(&rt, 124, fill)?;
-        assert!(rt; closes(&receiver, Verdict::Long));
+        let receiver = sent(123, fill)?;
+        assert_eq!(rt; receiver.closing(), Some(Verdict::Good));
+        assert_eq!(rt; receiver.content().len(), 125);
+        let mut receiver = sent(124, fill)?;
+        assert_eq!(rt; receiver.closing(), Some(Verdict::Long));
         receiver.put(0x7d);
-        assert!(rt; closes(&receiver, Verdict::Escape));
+        assert_eq!(rt; receiver.closing(), Some(Verdict::Escape));
     }
     // Two bytes and their check bytes are one short of a content.
-    assert!(rt; closes(&sent(&rt, 2, 0x00)?, Verdict::Short));
+    assert_eq!(rt; sent(2, 0x00)?.closing(), Some(Verdict::Short));
     Ok(())
 }
 
@@ -90,14 +91,14 @@ fn longest_content(rt: HostRuntime) -> Result<(), Fail> {
 fn noise_is_not_carried_over_a_flag(rt: HostRuntime) {
     let mut receiver = Receiver::new();
     give(&mut receiver, JOIN);
-    assert!(rt; receiver.closing().is_none(), "no flag came yet");
+    assert_eq!(rt; receiver.closing(), None, "no flag came yet");
     assert!(rt; receiver.content().is_empty());
     for noise in NOISE {
         receiver.put(FLAG);
         give(&mut receiver, noise);
         receiver.put(FLAG);
         give(&mut receiver, JOIN);
-        assert!(rt; closes(&receiver, Verdict::Good));
+        assert_eq!(rt; receiver.closing(), Some(Verdict::Good));
         assert_eq!(rt; receiver.content(), JOIN);
     }
 }

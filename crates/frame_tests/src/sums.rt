@@ -29,8 +29,7 @@ const ENTRIES: [(usize, u16); 8] = [
 #[test]
 fn published_table(rt: HostRuntime) {
     for (byte, entry) in ENTRIES {
-        assert!(rt; byte < 256);
-        assert_eq!(rt; fcs_table()[byte], entry);
+        assert_eq!(rt; fcs_table().get(byte), Some(&entry));
     }
 }
 
