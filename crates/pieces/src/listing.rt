@@ -17,7 +17,7 @@ pub fn list(heap: Global, recording: &[u8]) -> Result<Vec<u8>, AllocError>
         let line = format!(in heap; "{refusal}\n")?;
         return Ok(line.into_bytes());
     }
-    let mut row = [0; LINE_ROOM];
+    let mut row = [0; LINE_ROOM]; // has room for any line, so that no call below is refused
     let mut text = Vec::new(heap);
     let count = names(&mut row).unwrap();
     text.extend_from_slice(&row[..count])?;

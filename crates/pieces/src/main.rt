@@ -11,10 +11,6 @@ use std::io::{Read, Write};
 const ROOM: u64 = LIMIT as u64 + 1;
 
 fn main(rt: HostRuntime) -> anyhow::Result<()> {
-    run(&rt)
-}
-
-fn run(rt: &HostRuntime) -> anyhow::Result<()> {
     let mut recording = Vec::new(rt.alloc());
     rt.stdin().take(ROOM).read_to_end(&mut recording)?;
     let text = list(rt.alloc(), &recording)?;

@@ -10,10 +10,10 @@ use crate::writing::line_of;
 // A shorter line buffer is refused; no line is longer than this.
 pub const LINE_ROOM: usize = 32;
 
-// The names of a listing line's fields.
+// The names of a listing line's fields, as a line.
 const NAMES: &[u8] = b"place bytes verdict command\n";
 
-// Writes the names line and answers its length.
+// Writes the names line and answers its length: a buffer is lent, since the interface is fixed and a library takes no heap.
 pub fn names(out: &mut [u8]) -> Result<usize, Refusal>
     ensures count { result ≡ counted (into out.old (Ok names_line)) }
     ensures bytes { out.new ≡ filled out.old (into out.old (Ok names_line)) }

@@ -29,6 +29,7 @@ pub struct Reading<'a> {
 }
 
 // Answers the number of what the place speaks of, the raw piece, and the place to go on: past the closing flag, or the recording's end.
+// A tuple with a number, and a recording with a place beside it, since the calls on a recording are a fixed interface.
 pub fn piece(recording: &[u8], place: usize) -> (u16, &[u8], usize)
     ensures status { result.0 ≡ status_number (piece_at recording.now place).status }
     ensures raw { result.1.now ≡ (piece_at recording.now place).raw }
