@@ -8,7 +8,7 @@ use recording::reader::read;
 use std::alloc::{AllocError, Global};
 
 // The names line and a line for each piece; or one line that says why the recording is refused.
-#[tactic(auto, using(crate::proofs::Worked::worked_listing))]
+#[tactic(auto, using(crate::proofs::Worked::worked_listing, crate::proofs::Lists::refused_listing))]
 pub fn list(heap: Global, recording: &[u8]) -> Result<Vec<u8>, AllocError>
     ensures text { IfOk result (λ v. v.items ≡ listing_of recording.now) }
     ensures worked { WorkedListing }

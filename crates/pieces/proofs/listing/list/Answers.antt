@@ -4,13 +4,8 @@ use Rattle.std.proofs.lemmas.Grind.{common_steps}
 use Rattle.frame.specs.Written.{written}
 use Rattle.recording.specs.Listing.{names_line, line_for}
 use Rattle.recording.specs.Pieces.{piece_at}
-use Rattle.pieces.proofs.Lists.{ListedTo, refused_listing, names_listed, line_listed}
+use Rattle.pieces.proofs.Lists.{ListedTo, names_listed, line_listed}
 use Rattle.pieces.proofs.listing.list.Goals as goal
-
-pub returns-in-Err-clause-text : goal.returns-in-Err-clause-text
-returns-in-Err-clause-text c =
-    let told = refused_listing c.args.recording.now c.in-Err.refusal c.in-Err.ensures.answer in
-    grind (arith, common_steps)
 
 pub loop-reading-init : goal.loop-reading-init
 unfolding written
