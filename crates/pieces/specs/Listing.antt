@@ -1,22 +1,19 @@
 -- The whole listing of a recording. Assumes nothing.
-use Rattle.std.specs.Prelude.{ℕ, List, ◌++◌, codes, decimal}
+use Rattle.std.specs.Prelude.{ℕ, List, ◌++◌, Ok, Err}
 use Rattle.std.specs.List.{flat_map}
 use Rattle.recording.specs.declared.status.Refusal.{Refusal}
-use Rattle.recording.specs.declared.status.Status.{Status}
-use Rattle.recording.specs.declared.status.Status.TheVariants.{Refused, End, Piece}
 use Rattle.recording.specs.Listing.{line_feed, field, names_line, line_for}
 use Rattle.recording.specs.Pieces.{piece_at, pieces_of}
-use Rattle.recording.specs.Statuses.{refusal_number}
+use Rattle.recording.specs.Statuses.{Status, refusal_text}
 
 -- the one line of a recording that is refused: the refusal's number
 abbrev pub refused_line : Refusal → List ℕ
-refused_line refusal = field (codes "refused " ++ decimal (refusal_number refusal)) line_feed
+refused_line refusal = field (refusal_text refusal) line_feed
 
 -- a listing, unless the call at place 0 is refused
 abbrev pub unless_refused : Status → List ℕ → List ℕ
-unless_refused (Refused refusal) listing = refused_line refusal
-unless_refused End listing = listing
-unless_refused (Piece label) listing = listing
+unless_refused (Err refusal) listing = refused_line refusal
+unless_refused (Ok found) listing = listing
 
 -- the whole listing: the names and a line for each piece, or why there is none
 unfoldable pub listing_of : List ℕ → List ℕ

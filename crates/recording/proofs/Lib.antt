@@ -1,5 +1,4 @@
 -- The lemmas that several proofs share of `recording`.
 pub mod Covers
 pub mod Fields
-pub mod Readings
 pub mod Runs

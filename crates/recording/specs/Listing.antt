@@ -1,13 +1,12 @@
 -- The listing of a recording: a line of names, and a line for each piece. Assumes nothing.
-use Rattle.std.specs.Prelude.{ℕ, cond, List, [], ◌∷◌, ◌++◌, length, Some, None, Ok, Err, codes, decimal, Option, Result, nat_lt}
+use Rattle.std.specs.Prelude.{ℕ, if◌then◌else◌, List, [], ◌∷◌, ◌++◌, length, Some, None, Ok, Err, codes, decimal, Option, Result, nat_lt}
+use Rattle.std.specs.Result.{result_unwrap_or}
 use Rattle.frame.specs.Written.{written}
 use Rattle.recording.specs.declared.status.Label.{Label}
 use Rattle.recording.specs.declared.status.Refusal.{Refusal}
 use Rattle.recording.specs.declared.status.Refusal.TheVariants.{ShortBuffer}
-use Rattle.recording.specs.declared.status.Status.{Status}
-use Rattle.recording.specs.declared.status.Status.TheVariants.{Refused, End, Piece}
 use Rattle.recording.specs.Pieces.{Located, piece_at}
-use Rattle.recording.specs.Statuses.{label_name}
+use Rattle.recording.specs.Statuses.{Status, label_name}
 
 -- a line buffer has at least this many bytes
 abbrev pub room : ℕ
@@ -41,9 +40,9 @@ names_line = field (codes "place bytes verdict command") line_feed
 
 -- the text for a status and what was found: nothing at the end
 abbrev pub text_of : Status → Located → Result (List ℕ) Refusal
-text_of (Refused refusal) found = Err refusal
-text_of End found = Ok []
-text_of (Piece label) found = Ok (line_of label found)
+text_of (Err refusal) found = Err refusal
+text_of (Ok None) found = Ok []
+text_of (Ok (Some label)) found = Ok (line_of label found)
 
 -- the text for a place
 abbrev pub line_at : List ℕ → ℕ → Result (List ℕ) Refusal
@@ -51,7 +50,7 @@ line_at bytes place = text_of (piece_at bytes place).status (piece_at bytes plac
 
 -- a buffer that is too short is refused before all else
 abbrev pub into : List ℕ → Result (List ℕ) Refusal → Result (List ℕ) Refusal
-into buffer text = cond (nat_lt (length buffer) room) (Err ShortBuffer) text
+into buffer text = if nat_lt (length buffer) room then Err ShortBuffer else text
 
 -- what a call answers of a text: its length, or the refusal
 abbrev pub counted : Result (List ℕ) Refusal → Result ℕ Refusal
@@ -63,11 +62,6 @@ abbrev pub filled : List ℕ → Result (List ℕ) Refusal → List ℕ
 filled buffer (Ok text) = written buffer 0 text
 filled buffer (Err refusal) = buffer
 
--- the text, or none of it where there is a refusal
-abbrev pub or_nothing : Result (List ℕ) Refusal → List ℕ
-or_nothing (Ok text) = text
-or_nothing (Err refusal) = []
-
 -- the line for what was found: only a piece has one
 abbrev pub line_for : Located → List ℕ
-line_for found = or_nothing (text_of found.status found)
+line_for found = result_unwrap_or (text_of found.status found) []

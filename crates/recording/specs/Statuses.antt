@@ -1,12 +1,14 @@
 -- Every answer of the calls on a recording, with its number, and every label with its name. Assumes nothing.
-use Rattle.std.specs.Prelude.{ℕ, List, codes}
+use Rattle.std.specs.Prelude.{ℕ, List, ◌++◌, Some, None, Ok, Err, Option, Result, codes, decimal}
 use Rattle.frame.specs.declared.verdict.Verdict.TheVariants.{Empty, Escape, Long, Short, Check, Good}
 use Rattle.recording.specs.declared.status.Label.{Label}
 use Rattle.recording.specs.declared.status.Label.TheVariants.{Open, Stray, Closed}
 use Rattle.recording.specs.declared.status.Refusal.{Refusal}
 use Rattle.recording.specs.declared.status.Refusal.TheVariants.{ShortBuffer, LongRecording, PlaceBeyond}
-use Rattle.recording.specs.declared.status.Status.{Status}
-use Rattle.recording.specs.declared.status.Status.TheVariants.{Refused, End, Piece}
+
+-- what a call at a place answers: a piece with its label, none where nothing is left, or a refusal
+abbrev pub Status : Type 0
+Status = Result (Option Label) Refusal
 
 -- the number of each refusal
 abbrev pub refusal_number : Refusal → ℕ
@@ -27,9 +29,13 @@ label_number Stray = 8
 
 -- the number of each status: 0 where nothing is left
 abbrev pub status_number : Status → ℕ
-status_number End = 0
-status_number (Piece label) = label_number label
-status_number (Refused refusal) = refusal_number refusal
+status_number (Ok None) = 0
+status_number (Ok (Some label)) = label_number label
+status_number (Err refusal) = refusal_number refusal
+
+-- how a refusal is printed
+abbrev pub refusal_text : Refusal → List ℕ
+refusal_text refusal = codes "refused " ++ decimal (refusal_number refusal)
 
 -- the word for a label in a listing
 abbrev pub label_name : Label → List ℕ

@@ -1,18 +1,19 @@
 // The listing of a recording: the names line, and the line of a piece.
-ghost use Rattle.std.specs.Prelude.{◌≡◌, ◌≤◌, IfOk, Ok};
+ghost use Rattle.std.specs.Prelude.{◌≡◌, ◌≤◌, length, IfOk, Ok};
+ghost use Rattle.frame.specs.Written.{written};
 ghost use Rattle.recording.specs.Listing.{room, names_line, line_at, into, counted, filled};
 
 use crate::reader::read;
-use crate::status::{Refusal, Status};
-use crate::writing::{put_field, put_line};
+use crate::status::Refusal;
+use crate::writing::line_of;
 
 // A shorter line buffer is refused; no line is longer than this.
 pub const LINE_ROOM: usize = 32;
 
-// The names of a listing line's fields.
-const NAMES: &[u8] = b"place bytes verdict command";
+// The names of a listing line's fields, as a line.
+const NAMES: &[u8] = b"place bytes verdict command\n";
 
-// Writes the names line and answers its length.
+// Writes the names line and answers its length: a buffer is lent, since the interface is fixed and a library takes no heap.
 pub fn names(out: &mut [u8]) -> Result<usize, Refusal>
     ensures count { result ≡ counted (into out.old (Ok names_line)) }
     ensures bytes { out.new ≡ filled out.old (into out.old (Ok names_line)) }
@@ -21,10 +22,11 @@ pub fn names(out: &mut [u8]) -> Result<usize, Refusal>
     if out.len() < LINE_ROOM {
         return Err(Refusal::ShortBuffer);
     }
-    Ok(put_field(out, 0, NAMES, b'\n'))
+    Ok(put(out, NAMES))
 }
 
 // Writes the listing line of the piece that a place speaks of, and answers its length: 0 at the end.
+#[tactic(auto, unfolding(frame::specs::Written::written))]
 pub fn line(recording: &[u8], place: usize, out: &mut [u8]) -> Result<usize, Refusal>
     ensures count { result ≡ counted (into out.old (line_at recording.now place)) }
     ensures bytes { out.new ≡ filled out.old (into out.old (line_at recording.now place)) }
@@ -33,10 +35,19 @@ pub fn line(recording: &[u8], place: usize, out: &mut [u8]) -> Result<usize, Ref
     if out.len() < LINE_ROOM {
         return Err(Refusal::ShortBuffer);
     }
-    let reading = read(recording, place);
-    match reading.status {
-        Status::Refused(refusal) => Err(refusal),
-        Status::End => Ok(0),
-        Status::Piece(label) => Ok(put_line(out, reading, label)),
+    match read(recording, place)? {
+        Some(reading) => Ok(put(out, line_of(reading).as_slice())),
+        None => Ok(0),
     }
+}
+
+// Copies a text to the buffer's front and answers its length.
+#[tactic(auto, unfolding(frame::specs::Written::written))]
+fn put(out: &mut [u8], text: &[u8]) -> usize
+    requires { length text.now ≤ length out.old }
+    ensures length { result ≡ length text.now }
+    ensures bytes { out.new ≡ written out.old 0 text.now }
+{
+    out[..text.len()].copy_from_slice(text);
+    text.len()
 }

@@ -1,11 +1,12 @@
 // The piece call: the run of bytes that a place in a recording speaks of.
-ghost use Rattle.std.specs.Prelude.{◌≡◌, ◌+◌, ◌-◌, ◌≤◌, length, take, drop};
+ghost use Rattle.std.specs.Prelude.{◌≡◌, ◌+◌, ◌<◌, ◌≤◌, length, Some, Ok, IfOk, IfSome, OnOk};
+ghost use Rattle.std.specs.List.{before_first, position};
 ghost use Rattle.frame.specs.Collected.{Collected};
 ghost use Rattle.recording.specs.Laws.{PiecesCoverTheRecording, NoneOnlyAtTheEnd};
-ghost use Rattle.recording.specs.Pieces.{start_at, run_from, status_of, command_of, command_in, refused_at, piece_at, located};
+ghost use Rattle.recording.specs.Pieces.{start_at, is_flag, label_of, command_of, command_in, piece_at, answered};
 ghost use Rattle.recording.specs.Statuses.{status_number};
 
-use crate::status::{Label, Refusal, Status};
+use crate::status::{Label, Refusal};
 use frame::FLAG;
 use frame::collector::Collector;
 use frame::verdict::Verdict;
@@ -13,10 +14,10 @@ use frame::verdict::Verdict;
 // A longer recording is refused.
 pub const LIMIT: usize = 65_536;
 
-// What a place in a recording speaks of.
-#[derive(Clone, Copy)]
+// A piece that a place in a recording speaks of.
+#[derive(Clone, Copy, PartialEq, Eq, Debug)]
 pub struct Reading<'a> {
-    pub status: Status,
+    pub label: Label,
     // Where the run begins.
     pub start: usize,
     // The run, without the flag that closes it.
@@ -27,7 +28,8 @@ pub struct Reading<'a> {
     pub command: Option<u8>,
 }
 
-// Answers the number of its status, the raw piece, and the place to go on: past the closing flag, or the recording's end.
+// Answers the number of what the place speaks of, the raw piece, and the place to go on: past the closing flag, or the recording's end.
+// A tuple with a number, and a recording with a place beside it, since the calls on a recording are a fixed interface.
 pub fn piece(recording: &[u8], place: usize) -> (u16, &[u8], usize)
     ensures status { result.0 ≡ status_number (piece_at recording.now place).status }
     ensures raw { result.1.now ≡ (piece_at recording.now place).raw }
@@ -35,64 +37,61 @@ pub fn piece(recording: &[u8], place: usize) -> (u16, &[u8], usize)
     ensures covers { PiecesCoverTheRecording }
     ensures none { NoneOnlyAtTheEnd }
 {
-    let reading = read(recording, place);
-    (reading.status.number(), reading.raw, reading.next)
+    match read(recording, place) {
+        Ok(Some(reading)) => (u16::from(reading.label), reading.raw, reading.next),
+        Ok(None) => (0, &[], recording.len()),
+        Err(refusal) => (u16::from(refusal), &[], place),
+    }
 }
 
-// Reads at a place. The checks of the recording's length and of the place come first, in this order.
-pub fn read(recording: &[u8], place: usize) -> Reading<'_>
-    ensures { located result ≡ piece_at recording.now place }
+// Reads at a place: none at the recording's end. The checks of the recording's length and of the place come first, in this order.
+#[tactic(auto, unfolding(crate::specs::Pieces::piece_at, crate::specs::Pieces::run_from))]
+pub fn read(recording: &[u8], place: usize) -> Result<Option<Reading<'_>>, Refusal>
+    ensures answer { answered recording.now place result ≡ piece_at recording.now place }
+
+    // So a caller who goes on at `next` comes to the recording's end.
+    ensures short { OnOk result (length recording.now ≤ LIMIT) }
+    ensures onward { IfOk result (λ found. IfSome found (λ reading. place < reading.next)) }
+    ensures within { IfOk result (λ found. IfSome found (λ reading.
+        (reading.start + length reading.raw.now ≤ reading.next) × (reading.next ≤ length recording.now))) }
 {
     if recording.len() > LIMIT {
-        return refused(recording, place, Refusal::LongRecording);
+        return Err(Refusal::LongRecording);
     }
     if place > recording.len() {
-        return refused(recording, place, Refusal::PlaceBeyond);
+        return Err(Refusal::PlaceBeyond);
     }
     let start = start_at(recording, place);
-    let end = flag_from(recording, start);
-    let raw = &recording[start..end];
-    let (status, command) = judge(recording.len(), start, raw);
-    let next = (end + 1).min(recording.len());
-    Reading {
-        status,
+    let raw = up_to_flag(&recording[start..]);
+    if start == recording.len() {
+        return Ok(None);
+    }
+    let end = start + raw.len();
+    let (label, command) = judge(recording.len(), start, raw);
+    Ok(Some(Reading {
+        label,
         start,
         raw,
-        next,
+        next: (end + 1).min(recording.len()),
         command,
-    }
+    }))
 }
 
-// No byte is handed back, and the place is the one that was given.
-fn refused(recording: &[u8], place: usize, refusal: Refusal) -> Reading<'_>
-    ensures { located result ≡ refused_at refusal place }
-{
-    Reading {
-        status: Status::Refused(refusal),
-        start: place,
-        raw: &recording[0..0],
-        next: place,
-        command: None,
-    }
-}
-
-// The status of a run that begins at `start`, in a recording of this length; and its command, if it is good.
-fn judge(whole: usize, start: usize, raw: &[u8]) -> (Status, Option<u8>)
+// The label of a run that begins at `start`, in a recording of this length; and its command, if it is good.
+fn judge(whole: usize, start: usize, raw: &[u8]) -> (Label, Option<u8>)
     requires { start + length raw.now ≤ whole }
-    ensures status { result.0 ≡ status_of whole start raw.now }
-    ensures command { result.1 ≡ command_in (status_of whole start raw.now) raw.now }
+    ensures label { result.0 ≡ label_of whole start raw.now }
+    ensures command { result.1 ≡ command_in (Ok (Some (label_of whole start raw.now))) raw.now }
 {
-    if start == whole {
-        (Status::End, None)
-    } else if start + raw.len() == whole {
-        (Status::Piece(Label::Open), None)
+    if start + raw.len() == whole {
+        (Label::Open, None)
     } else if start == 0 {
-        (Status::Piece(Label::Stray), None)
+        (Label::Stray, None)
     } else {
         let collector = collect(raw);
         let verdict = collector.verdict();
         (
-            Status::Piece(Label::Closed(verdict)),
+            Label::Closed(verdict),
             command_of(verdict, collector.content()),
         )
     }
@@ -101,8 +100,8 @@ fn judge(whole: usize, start: usize, raw: &[u8]) -> (Status, Option<u8>)
 fn command_of(verdict: Verdict, content: &[u8]) -> Option<u8>
     ensures { result ≡ command_of verdict content.now }
 {
-    match (verdict, content) {
-        (Verdict::Good, [command, ..]) => Some(*command),
+    match verdict {
+        Verdict::Good => content.first().copied(),
         _ => None,
     }
 }
@@ -124,24 +123,25 @@ fn start_at(recording: &[u8], place: usize) -> usize
     ensures value { result ≡ start_at recording.now place }
     ensures within { result ≤ length recording.now }
 {
-    if place == 0 && !recording.is_empty() && recording[0] == FLAG {
-        1
-    } else {
-        place
+    match recording {
+        [FLAG, ..] if place == 0 => 1,
+        _ => place,
     }
 }
 
-// Where the first flag stands from a place on, or the recording's length where there is none.
-fn flag_from(recording: &[u8], start: usize) -> usize
-    requires { start ≤ length recording.now }
-    ensures value { result ≡ start + length (run_from recording.now start) }
-    ensures within { result ≤ length recording.now }
-    ensures run { take (result - start) (drop start recording.now) ≡ run_from recording.now start }
+// The bytes before the first flag, or all of them where there is none.
+fn up_to_flag(bytes: &[u8]) -> &[u8]
+    ensures { result.now ≡ before_first is_flag bytes.now }
 {
-    for i in start..recording.len() {
-        if recording[i] == FLAG {
-            return i;
-        }
+    match flag_in(bytes) {
+        Some(count) => &bytes[..count],
+        None => bytes,
     }
-    recording.len()
+}
+
+// Where the first flag stands.
+fn flag_in(bytes: &[u8]) -> Option<usize>
+    ensures { result ≡ position is_flag bytes.now }
+{
+    bytes.iter().position(|byte| *byte == FLAG)
 }

@@ -1,8 +1,10 @@
-// What a call on a recording answers: a piece with its label, the end, or a refusal; each has a number, and each label a name.
-ghost use Rattle.std.specs.Prelude.{◌≡◌};
-ghost use Rattle.recording.specs.Statuses.{refusal_number, label_number, status_number, label_name};
+// Why a call on a recording is refused, and what a run of bytes in it is; each has a number, a refusal a text, and a label a name.
+ghost use Rattle.std.specs.Prelude.{◌≡◌, ◌≤◌, length};
+ghost use Rattle.recording.specs.Statuses.{label_name};
 
 use frame::verdict::Verdict;
+use std::error::Error;
+use std::fmt;
 
 // Why a call was refused. Nothing is changed then.
 #[derive(Clone, Copy, PartialEq, Eq, Debug)]
@@ -16,7 +18,7 @@ pub enum Refusal {
 }
 
 // What a run of bytes in a recording is.
-#[derive(Clone, Copy)]
+#[derive(Clone, Copy, PartialEq, Eq, Debug)]
 pub enum Label {
     // No flag comes after it.
     Open,
@@ -26,19 +28,14 @@ pub enum Label {
     Closed(Verdict),
 }
 
-// What the piece call answers.
-#[derive(Clone, Copy)]
-pub enum Status {
-    Refused(Refusal),
-    End,
-    Piece(Label),
-}
+impl From<Refusal> for u16 {
+    ghost use Rattle.std.specs.Prelude.{◌≡◌};
+    ghost use Rattle.recording.specs.Statuses.{refusal_number};
 
-impl Refusal {
-    pub fn number(self) -> u16
-        ensures { result ≡ refusal_number self }
-    {
-        match self {
+    ghost from_gives = { λ refusal number. number ≡ refusal_number refusal };
+
+    fn from(refusal: Refusal) -> u16 {
+        match refusal {
             Refusal::ShortBuffer => 201,
             Refusal::LongRecording => 202,
             Refusal::PlaceBeyond => 203,
@@ -46,11 +43,27 @@ impl Refusal {
     }
 }
 
-impl Label {
-    fn number(self) -> u16
-        ensures { result ≡ label_number self }
-    {
-        match self {
+impl fmt::Display for Refusal {
+    ghost use Rattle.std.specs.Prelude.{Some};
+    ghost use Rattle.recording.specs.Statuses.{refusal_text};
+
+    ghost output = { λ refusal. Some (refusal_text refusal) };
+
+    fn fmt<W: fmt::Write>(&self, f: &mut fmt::Formatter<W>) -> fmt::Result {
+        write!(f, "refused {}", u16::from(*self))
+    }
+}
+
+impl Error for Refusal {}
+
+impl From<Label> for u16 {
+    ghost use Rattle.std.specs.Prelude.{◌≡◌};
+    ghost use Rattle.recording.specs.Statuses.{label_number};
+
+    ghost from_gives = { λ label number. number ≡ label_number label };
+
+    fn from(label: Label) -> u16 {
+        match label {
             Label::Closed(Verdict::Empty) => 1,
             Label::Closed(Verdict::Escape) => 2,
             Label::Closed(Verdict::Long) => 3,
@@ -61,10 +74,13 @@ impl Label {
             Label::Stray => 8,
         }
     }
+}
 
-    // The word for it in a listing.
-    pub(crate) fn name(self) -> &'static str
-        ensures { result.now ≡ label_name self }
+impl Label {
+    // The word for it in a listing. A `Display` would not do there: its `fmt` may fail, and a listing line may not.
+    pub(crate) fn as_str(self) -> &'static str
+        ensures name { result.now ≡ label_name self }
+        ensures short { length result.now ≤ 6 }
     {
         match self {
             Label::Closed(Verdict::Empty) => "empty",
@@ -75,19 +91,6 @@ impl Label {
             Label::Closed(Verdict::Good) => "good",
             Label::Open => "open",
             Label::Stray => "stray",
-        }
-    }
-}
-
-impl Status {
-    // 0 at the end, 1 to 8 for a piece, 201 and up for a refusal.
-    pub(crate) fn number(self) -> u16
-        ensures { result ≡ status_number self }
-    {
-        match self {
-            Status::End => 0,
-            Status::Piece(label) => label.number(),
-            Status::Refused(refusal) => refusal.number(),
         }
     }
 }

@@ -1,24 +1,30 @@
 // Recordings whole and torn, places inside and beyond them, and the limits of a recording and of a line buffer.
 use recording::listing::{line, names};
-use recording::reader::piece;
+use recording::reader::{piece, read};
 use recording::status::Refusal;
 use std::alloc::Global;
 use std::process::Abort;
 use std::test::Fail;
 
-// The lines of all pieces, going on from place 0.
+// The lines of all pieces, going on from place 0; at each the piece call answers what was read there.
 fn listing(rt: &impl Abort, heap: Global, recording: &[u8]) -> Result<Vec<u8>, Fail> {
     let mut text = Vec::new(heap);
+    let mut row = [0; 32];
     let mut place = 0;
-    for _ in 0..recording.len() {
-        let mut row = [0; 32];
+    while let Some(reading) = read(recording, place)? {
+        let answer = (u16::from(reading.label), reading.raw, reading.next);
+        assert_eq!(rt; piece(recording, place), answer);
         let count = line(recording, place, &mut row)?;
-        assert!(rt; count <= 32);
-        text.extend_from_slice(&row[0..count])?;
-        let (_, _, next) = piece(recording, place);
-        place = next;
+        text.extend_from_slice(&row[..count])?;
+        place = reading.next;
     }
     Ok(text)
+}
+
+// What the piece call answers, with the count of raw bytes in place of these.
+fn counted(recording: &[u8], place: usize) -> (u16, usize, usize) {
+    let (status, raw, next) = piece(recording, place);
+    (status, raw.len(), next)
 }
 
 // A recording and its lines.
@@ -63,47 +69,50 @@ fn listings(rt: HostRuntime) -> Result<(), Fail> {
 #[test]
 fn places(rt: HostRuntime) {
     let recording = b"~\x06\0\x08\x5d\x9c~\x06";
-    // Place, status number, count of raw bytes, place to go on.
+    // Place; status number, count of raw bytes, place to go on.
     let table = [
-        (0, 6, 5, 7),
-        (1, 6, 5, 7),
-        (3, 4, 3, 7),
-        (6, 1, 0, 7),
-        (7, 7, 1, 8),
-        (8, 0, 0, 8),
-        (9, 203, 0, 9),
+        (0, (6, 5, 7)),
+        (1, (6, 5, 7)),
+        (3, (4, 3, 7)),
+        (6, (1, 0, 7)),
+        (7, (7, 1, 8)),
+        (8, (0, 0, 8)),
+        (9, (203, 0, 9)),
     ];
-    for (place, status, count, next) in table {
-        let found = piece(recording, place);
-        assert!(rt; found.0 == status && found.1.len() == count && found.2 == next);
+    for (place, answer) in table {
+        assert_eq!(rt; counted(recording, place), answer);
     }
 }
 
 #[test]
 fn limit_of_a_recording(rt: HostRuntime) -> Result<(), Fail> {
     let mut bytes = vec![in rt.alloc(); 0; 65_536]?;
-    let whole = piece(bytes.as_slice(), 0);
-    assert!(rt; whole.0 == 7 && whole.1.len() == 65_536 && whole.2 == 65_536);
+    assert_eq!(rt; counted(&bytes, 0), (7, 65_536, 65_536));
     bytes.push(0)?;
-    let refused = piece(bytes.as_slice(), 70_000);
-    assert!(rt; refused.0 == 202 && refused.1.is_empty() && refused.2 == 70_000);
-    assert!(rt; line(bytes.as_slice(), 70_000, &mut [0; 32]) == Err(Refusal::LongRecording));
-    assert!(rt; line(bytes.as_slice(), 70_000, &mut [0; 31]) == Err(Refusal::ShortBuffer));
+    assert_eq!(rt; counted(&bytes, 70_000), (202, 0, 70_000));
+    assert_eq!(rt;
+        line(&bytes, 70_000, &mut [0; 32]),
+        Err(Refusal::LongRecording)
+    );
+    assert_eq!(rt;
+        line(&bytes, 70_000, &mut [0; 31]),
+        Err(Refusal::ShortBuffer)
+    );
     Ok(())
 }
 
 #[test]
 fn room_for_a_line(rt: HostRuntime) {
     let mut short = [0xee; 31];
-    assert!(rt; line(b"~", 2, &mut short) == Err(Refusal::ShortBuffer));
-    assert!(rt; names(&mut short) == Err(Refusal::ShortBuffer));
-    assert_eq!(rt; &short, &[0xee; 31]);
+    assert_eq!(rt; line(b"~", 2, &mut short), Err(Refusal::ShortBuffer));
+    assert_eq!(rt; names(&mut short), Err(Refusal::ShortBuffer));
+    assert_eq!(rt; short, [0xee; 31]);
     let mut row = [0xee; 32];
-    assert!(rt; line(b"~", 2, &mut row) == Err(Refusal::PlaceBeyond));
-    assert!(rt; line(b"~", 1, &mut row) == Ok(0));
-    assert_eq!(rt; &row, &[0xee; 32]);
-    assert!(rt; line(b"~~", 0, &mut row) == Ok(12));
-    assert_eq!(rt; &row[0..14], b"1 0 empty -\n\xee\xee".as_slice());
-    assert!(rt; names(&mut row) == Ok(28));
+    assert_eq!(rt; line(b"~", 2, &mut row), Err(Refusal::PlaceBeyond));
+    assert_eq!(rt; line(b"~", 1, &mut row), Ok(0));
+    assert_eq!(rt; row, [0xee; 32]);
+    assert_eq!(rt; line(b"~~", 0, &mut row), Ok(12));
+    assert_eq!(rt; &row[..14], b"1 0 empty -\n\xee\xee".as_slice());
+    assert_eq!(rt; names(&mut row), Ok(28));
     assert_eq!(rt; &row, b"place bytes verdict command\n\xee\xee\xee\xee");
 }

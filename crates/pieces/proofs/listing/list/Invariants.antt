@@ -1,11 +1,10 @@
--- What each turn of the loop in `list` keeps.
-use Rattle.std.proofs.Common.{◌≡◌, ◌-◌, ◌++◌, length, vec_items}
-use Rattle.std.specs.List.{flat_map}
-use Rattle.recording.specs.Listing.{names_line, line_for}
-use Rattle.recording.specs.Pieces.{pieces_from, pieces_of}
+-- What each turn of the loop in `list` keeps, and what falls.
+use Rattle.std.proofs.Common.{◌-◌, length}
+use Rattle.pieces.proofs.Lists.{ListedTo}
 use Rattle.pieces.proofs.listing.list.Given as goal
 
-abbrev pub invariant-loop-turn : goal.invariant-loop-turn
-invariant-loop-turn l =
-    vec_items l.text ++ flat_map line_for (pieces_from (length l.recording - l._turn) l.recording l.place)
-    ≡ names_line ++ flat_map line_for (pieces_of l.recording)
+abbrev pub invariant-loop-reading : goal.invariant-loop-reading
+invariant-loop-reading l = ListedTo l.recording l.place l.text.items
+
+abbrev pub decreases-loop-reading : goal.decreases-loop-reading
+decreases-loop-reading l = length l.recording - l.place
