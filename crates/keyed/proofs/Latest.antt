@@ -5,14 +5,11 @@ use Rattle.std.specs.Option.{option_map, option_or}
 use Rattle.std.specs.Bool.{then_some}
 use Rattle.keyed.specs.Keys.{last_index, last_of}
 
--- no record that follows the first fails to be one of the later ones
+-- no record from this index on passes
 abbrev pub NoneFrom : {R : Type 0} → (R → Bool) → List R → ℕ → Type 0
 NoneFrom passes records i = AllWithin (λ r. passes r ≡ false) records i (length records)
 
 module _ {R : Type 0} (passes : R → Bool) where
-  after_first : (r : R) (records : List R) (i : ℕ) → NoneFrom passes (r ∷ records) (i + 1) → NoneFrom passes records i
-  after_first r records i none = λ k d low high. none (suc k) d (omega arith) (omega arith)
-
   pub index_none : (records : List R) → NoneFrom passes records 0 → last_index passes records ≡ None
   unfolding last_index
   index_none [] none = refl

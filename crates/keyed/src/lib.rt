@@ -35,6 +35,17 @@ pub trait Keyed {
         ensures { result ≡ key self.now };
 }
 
+// A slot that may hold a record has its key, or none where it is empty.
+impl<R: Keyed> Keyed for Option<R> {
+    type Key = Option<R::Key>;
+
+    ghost key = { option_map R.key };
+
+    fn key(&self) -> Option<R::Key> {
+        self.as_ref().map(|record| record.key())
+    }
+}
+
 // The index of the last record with this key, or none where no record has it.
 pub fn last_with<R: Keyed>(records: &[R], wanted: R::Key) -> Option<usize>
     ensures last { FindsLast R.key wanted records.now result }
