@@ -12,6 +12,6 @@ pub(crate) fn lay(place: Place, held: &Row, row: &mut Row) -> usize
     ensures row { row.new ≡ laid (value_in place.at held.now) row.old }
 {
     let width = place.width();
-    row[0..width].copy_from_slice(&held[0..width]);
+    row[..width].copy_from_slice(&held[..width]);
     width
 }
