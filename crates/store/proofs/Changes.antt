@@ -7,7 +7,7 @@ use Rattle.std.proofs.lemmas.Slice.{drop-append-drop}
 use Rattle.store.specs.declared.log.LogStore.{LogStore}
 use Rattle.store.specs.declared.records.Record.{Record}
 use Rattle.store.specs.Logs.{capacity, latest_of, latest_of_first, latest_each, records_of, with_room, ChangesTo}
-use Rattle.store.proofs.Logged.{first_more}
+use Rattle.store.proofs.Logged.{first_none, first_count, first_more}
 use Rattle.settings.specs.Settings.{place_count}
 use Rattle.settings.specs.Values.{laid}
 
@@ -24,9 +24,6 @@ laid_push xs old n x e within =
 -- a row's own front laid into it is the row
 laid_own : {A : Type 0} (n : ℕ) (row : List A) → laid (take n row) row ≡ row
 laid_own n row = ap (λ k. take n row ++ drop k row) (length-take n row) ∙ ap (λ l. take n row ++ l) (drop_min n row) ∙ take-append-drop n row
-
-pub unchanged : (s : LogStore) → ChangesTo s s (records_of s)
-unchanged s = record { records = refl; row = sym (laid_own s.count s.row.now); lent = refl }
 
 -- one change, and another that leaves no fewer records
 pub changes_then : (a b c : LogStore) (xs ys : List Record) → ChangesTo a b xs → ChangesTo b c ys → length xs ≤ length ys → ChangesTo a c ys
@@ -67,3 +64,6 @@ made_room old new n all long full kept =
     ∙ ap latest_each (sym whole)
     ∙ sym (ap (λ t. cond t (records_of old) (latest_each (records_of old))) (le-ltb (length (records_of old)) capacity full)))
     kept
+
+-- what the loop that makes room leaves to show at its start and its end
+pub ruleset room = (first_none, first_count, made_room)

@@ -13,7 +13,7 @@ use Rattle.store.specs.Laws.{LogLaws}
 use Rattle.store.specs.Logs.{latest_of, latest_of_first, latest_each, with_room, appended, row_of, capacity}
 use Rattle.store.specs.Places.{written, wiped, places_by}
 use Rattle.settings.specs.Settings.{place_count}
-use Rattle.store.proofs.Meaning.{values-written, values-wiped, values_same}
+use Rattle.store.proofs.Meaning.{places_by-written, places_by-wiped, places_by_same}
 
 counting_push : (n : ℕ) → range_with_len 0 (n + 1) ≡ range_with_len 0 n ++ n ∷ []
 counting_push n = sym (map-id (range_with_len 0 (n + 1))) ∙ map-range_with_len_more (λ x. x) 0 n n (omega arith) ∙ ap (λ l. l ++ n ∷ []) (map-id (range_with_len 0 n))
@@ -84,12 +84,12 @@ among_first (suc n) records place below =
 
 -- a log that gives up all but each place's last record means what it meant
 pub compacted : (records : List Record) → places_by (row_of (latest_each records)) ≡ places_by (row_of records)
-compacted records = values_same (row_of (latest_each records)) (row_of records) (λ place within. ap (option_map (λ (r : Record). r.value)) (among_first place_count records place within))
+compacted records = places_by_same (row_of (latest_each records)) (row_of records) (λ place within. ap (option_map (λ (r : Record). r.value)) (among_first place_count records place within))
 
 -- one record more is a write
 pub pushed : (records : List Record) (r : Record) → r.place < place_count → places_by (row_of (records ++ r ∷ [])) ≡ written (places_by (row_of records)) r.place r.value
 pushed records r within =
-    values-written (row_of records) r.place within (row_of (records ++ r ∷ [])) r.value
+    places_by-written (row_of records) r.place within (row_of (records ++ r ∷ [])) r.value
     (ap (option_map (λ (r : Record). r.value)) (last_push (λ (q : Record). q.place == r.place) records r ∙ ap (λ t. cond t (Some r) (latest_of records r.place)) (eq-eqb r.place r.place refl)))
     (λ other apart. ap (option_map (λ (r : Record). r.value)) (last_push (λ (q : Record). q.place == other) records r ∙ ap (λ t. cond t (Some r) (latest_of records other)) (ne_eqb r.place other (λ e. apart (sym e)))))
 
@@ -108,7 +108,7 @@ appended_writes records r within =
 
 pub empty_log : places_by (row_of []) ≡ wiped
 unfolding last_of
-empty_log = values-wiped (row_of []) (λ place. refl)
+empty_log = places_by-wiped (row_of []) (λ place. refl)
 
 stays_within : (room : Bool) (records : List Record) (r : Record) → ltb (length records) capacity ≡ room → length (cond room records (latest_each records) ++ r ∷ []) ≤ capacity
 stays_within true records r e = omega (arith, ltb-true (length records) capacity e, length_push records r)

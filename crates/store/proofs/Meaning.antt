@@ -5,7 +5,7 @@ use Rattle.std.proofs.lemmas.List.{ext_get_or, get_or_past, get_or-set_same, get
 use Rattle.std.proofs.lemmas.Bool.{cases_eq, cases_lt}
 use Rattle.settings.proofs.Tabulated.{value_front}
 use Rattle.store.specs.Fits.{length_value, places_all, held-places_by}
-use Rattle.store.specs.Places.{held, written, wiped, places_by}
+use Rattle.store.specs.Places.{written, wiped, places_by}
 use Rattle.settings.specs.Settings.{place_count, width}
 use Rattle.settings.specs.Values.{value_in, laid}
 
@@ -17,15 +17,9 @@ laid_front place row old part n long e is =
     λ i. value i ++ drop (count i) old
 
 module _ (rows : ℕ → Option (List ℕ)) (place : ℕ) (within : place < place_count) where
-  pub holds_some : (row : List ℕ) → rows place ≡ Some row → held (places_by rows) place ≡ Some (value_in place row)
-  holds_some row e = held-places_by rows place within ∙ ap (option_map (value_in place)) e
-
-  pub holds_none : rows place ≡ None → held (places_by rows) place ≡ None
-  holds_none e = held-places_by rows place within ∙ ap (option_map (value_in place)) e
-
   -- one place has another row, and every other place its old one
-  pub values-written : (more : ℕ → Option (List ℕ)) (row : List ℕ) → more place ≡ Some row → ((other : ℕ) → other ≢ place → more other ≡ rows other) → places_by more ≡ written (places_by rows) place row
-  values-written more row here elsewhere =
+  pub places_by-written : (more : ℕ → Option (List ℕ)) (row : List ℕ) → more place ≡ Some row → ((other : ℕ) → other ≢ place → more other ≡ rows other) → places_by more ≡ written (places_by rows) place row
+  places_by-written more row here elsewhere =
       let long = places_all rows in
       let same_length : length (places_by more) ≡ length (written (places_by rows) place row) = places_all more ∙ sym (length-set (places_by rows) place (Some (value_in place row)) ∙ long) in
       ext_get_or None (places_by more) (written (places_by rows) place row) same_length
@@ -44,15 +38,15 @@ module _ (rows : ℕ → Option (List ℕ)) (place : ℕ) (within : place < plac
       ∙ sym (get_or-set_other (places_by rows) place k (Some (value_in place row)) None other))
       (cases_eq k place))
 
-pub values_same : (rows others : ℕ → Option (List ℕ)) → ((place : ℕ) → place < place_count → rows place ≡ others place) → places_by rows ≡ places_by others
-values_same rows others same =
+pub places_by_same : (rows others : ℕ → Option (List ℕ)) → ((place : ℕ) → place < place_count → rows place ≡ others place) → places_by rows ≡ places_by others
+places_by_same rows others same =
     ext_get_or None (places_by rows) (places_by others) (places_all rows ∙ sym (places_all others))
     (λ k inside.
     let below : k < place_count = omega (arith, places_all rows) in
     held-places_by rows k below ∙ ap (option_map (value_in k)) (same k below) ∙ sym (held-places_by others k below))
 
-pub values-wiped : (rows : ℕ → Option (List ℕ)) → ((place : ℕ) → rows place ≡ None) → places_by rows ≡ wiped
-values-wiped rows none =
+pub places_by-wiped : (rows : ℕ → Option (List ℕ)) → ((place : ℕ) → rows place ≡ None) → places_by rows ≡ wiped
+places_by-wiped rows none =
     ext_get_or None (places_by rows) wiped (places_all rows)
     (λ k inside.
     let below : k < place_count = omega (arith, places_all rows) in
@@ -60,7 +54,7 @@ values-wiped rows none =
 
 pub list_written : (rows : List (Option (List ℕ))) (place n : ℕ) (row : List ℕ) → place < place_count → length rows ≡ place_count → n ≡ place → places_by (λ p. get_or (set rows n (Some row)) p None) ≡ written (places_by (λ p. get_or rows p None)) place row
 list_written rows place n row within long e =
-    values-written (λ p. get_or rows p None) place within (λ p. get_or (set rows n (Some row)) p None) row
+    places_by-written (λ p. get_or rows p None) place within (λ p. get_or (set rows n (Some row)) p None) row
     (ap (λ k. get_or (set rows k (Some row)) place None) e ∙ get_or-set_same rows place (Some row) None (omega arith))
     (λ other apart. ap (λ k. get_or (set rows k (Some row)) other None) e ∙ get_or-set_other rows place other (Some row) None apart)
 
@@ -72,7 +66,7 @@ no_row n p =
     (cases_lt p n)
 
 pub list_wiped : places_by (λ p. get_or {A = Option (List ℕ)} (replicate place_count None) p None) ≡ wiped
-list_wiped = values-wiped (λ p. get_or {A = Option (List ℕ)} (replicate place_count None) p None) (no_row place_count)
+list_wiped = places_by-wiped (λ p. get_or {A = Option (List ℕ)} (replicate place_count None) p None) (no_row place_count)
 
 -- what a read of a place leaves to show
 pub ruleset reads = (held-places_by, length_value)

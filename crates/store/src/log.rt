@@ -52,6 +52,7 @@ impl LogStore<'_> {
     }
 
     // Makes room for one record more: a full log gives up all but each place's last record, in the order of the places.
+    #[tactic(auto, using(crate::proofs::Changes::room))]
     fn make_room(&mut self)
         ensures room { length (records_of self.new) < capacity }
         ensures records { ChangesTo self.old self.new (with_room (records_of self.old)) }
@@ -83,6 +84,7 @@ impl Store for LogStore<'_> {
         Some(lay(place, &record.value, row))
     }
 
+    #[tactic(auto, using(crate::proofs::Logged::appended_writes))]
     fn write(&mut self, place: Place, row: &Row)
         ensures places { log_places self.new ≡ written (log_places self.old) place.at row.now }
         ensures records { ChangesTo self.old self.new (appended (records_of self.old) (record_of place.at row.now)) }
