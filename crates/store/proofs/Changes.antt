@@ -26,7 +26,7 @@ laid_own : {A : Type 0} (n : ℕ) (row : List A) → laid (take n row) row ≡ r
 laid_own n row = ap (λ k. take n row ++ drop k row) (length-take n row) ∙ ap (λ l. take n row ++ l) (drop_min n row) ∙ take-append-drop n row
 
 -- one change, and another that leaves no fewer records
-pub changes_then : (a b c : LogStore) (xs ys : List Record) → ChangesTo a b xs → ChangesTo b c ys → length xs ≤ length ys → ChangesTo a c ys
+changes_then : (a b c : LogStore) (xs ys : List Record) → ChangesTo a b xs → ChangesTo b c ys → length xs ≤ length ys → ChangesTo a c ys
 changes_then a b c xs ys first then longer = record {
   records = then.records;
   row = then.row ∙ ap (laid ys) first.row ∙ ap (λ l. ys ++ l) (drop-append-drop (length xs) a.row.now xs (length ys) longer refl);

@@ -83,11 +83,11 @@ among_first (suc n) records place below =
     (cases_eq place n)
 
 -- a log that gives up all but each place's last record means what it meant
-pub compacted : (records : List Record) → places_by (row_of (latest_each records)) ≡ places_by (row_of records)
+compacted : (records : List Record) → places_by (row_of (latest_each records)) ≡ places_by (row_of records)
 compacted records = places_by_same (row_of (latest_each records)) (row_of records) (λ place within. ap (option_map (λ (r : Record). r.value)) (among_first place_count records place within))
 
 -- one record more is a write
-pub pushed : (records : List Record) (r : Record) → r.place < place_count → places_by (row_of (records ++ r ∷ [])) ≡ written (places_by (row_of records)) r.place r.value
+pushed : (records : List Record) (r : Record) → r.place < place_count → places_by (row_of (records ++ r ∷ [])) ≡ written (places_by (row_of records)) r.place r.value
 pushed records r within =
     places_by-written (row_of records) r.place within (row_of (records ++ r ∷ [])) r.value
     (ap (option_map (λ (r : Record). r.value)) (last_push (λ (q : Record). q.place == r.place) records r ∙ ap (λ t. cond t (Some r) (latest_of records r.place)) (eq-eqb r.place r.place refl)))

@@ -10,7 +10,7 @@ use crate::rows::lay;
 use settings::place::Place;
 use settings::table::{PLACES, Row};
 
-// A fixed row and a count, since the row is the caller's memory, always of so many records; and no fact of them in the type, since it may hold anything.
+// A row with a count beside it, and no fact of them in the type: the caller lends the row, always of 16 records, and it may hold anything.
 #[derive(Drop)]
 pub struct LogStore<'a> {
     row: &'a mut [Record; RECORDS],
@@ -36,7 +36,7 @@ impl LogStore<'_> {
     // The records in use.
     fn records(&self) -> &[Record]
         ensures records { result.now ≡ records_of self.now }
-        ensures long { length self.now.row.now ≡ RECORDS }
+        ensures long { length self.now.row.now ≡ capacity }
     {
         used(self.row, self.count)
     }

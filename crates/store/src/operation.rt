@@ -1,5 +1,5 @@
 // The operations on a store, and two stores that are given the same ones.
-ghost use Rattle.std.specs.Prelude.{◌≡◌, ◌↔◌, true, IsTrue};
+ghost use Rattle.std.specs.Prelude.{◌≡◌, ◌↔◌, IsTrue};
 ghost use Rattle.std.specs.Option.{option_map};
 ghost use Rattle.store.specs.Laws.{StoreLaws};
 ghost use Rattle.store.specs.Operations.{answer, shown, after, answers, after_all};
@@ -40,9 +40,10 @@ pub fn agree<X: Store, Y: Store>(x: &mut X, y: &mut Y, operations: &[Operation])
     ensures answers { IsTrue result ↔ (answers (X.places x.old) operations.now ≡ answers (Y.places y.old) operations.now) }
     ensures x_after { X.places x.new ≡ after_all (X.places x.old) operations.now }
     ensures y_after { Y.places y.new ≡ after_all (Y.places y.old) operations.now }
-    ensures alike { X.places x.old ≡ Y.places y.old → (result ≡ true) × (X.places x.new ≡ Y.places y.new) }
+    ensures alike { X.places x.old ≡ Y.places y.old → IsTrue result × (X.places x.new ≡ Y.places y.new) }
     ensures laws { StoreLaws }
 {
+    // No `all`: both stores are given every operation, also after a disagreement.
     let mut alike = true;
     for operation in operations {
         alike &= operation.run(x) == operation.run(y);

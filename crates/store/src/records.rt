@@ -1,7 +1,7 @@
 // Records of places and their values, and the search for a place's last one.
 ghost use Rattle.std.specs.Prelude.{◌≡◌, length, take};
 ghost use Rattle.std.specs.Option.{option_copied};
-ghost use Rattle.store.specs.Logs.{latest_of};
+ghost use Rattle.store.specs.Logs.{capacity, latest_of};
 
 use keyed::{Keyed, last_with};
 use settings::table::Row;
@@ -10,7 +10,7 @@ use settings::table::Row;
 pub const RECORDS: usize = 16;
 
 // A place, by its number, and the value that it was given.
-// The number is a plain one, since the row that a caller lends may hold anything, and so records of no place.
+// The number is a plain one, not a `Place`: the row that a caller lends may hold anything, and so records of no place.
 #[derive(Clone, Copy, PartialEq, Eq, Debug)]
 pub struct Record {
     pub place: usize,
@@ -29,10 +29,10 @@ impl Keyed for Record {
 }
 
 // The first `count` records of a row, or all where it has no more.
-// A function of the row itself, since a proof knows how long a fixed row is where it is a parameter, and not behind a field.
+// No method of the log: a proof knows how long a fixed row is where the row is a parameter, and not where it stands behind a field.
 pub(crate) fn used(row: &[Record; RECORDS], count: usize) -> &[Record]
     ensures records { result.now ≡ take count row.now }
-    ensures long { length row.now ≡ RECORDS }
+    ensures long { length row.now ≡ capacity }
 {
     row.get(..count).unwrap_or(row)
 }
