@@ -25,17 +25,22 @@ impl Operation {
             Operation::Read(place) => {
                 let mut row = [0; WIDEST];
                 let width = store.read(*place, &mut row)?;
-                return Some((width, row));
+                Some((width, row))
             }
-            Operation::Write(place, row) => store.write(*place, row),
-            Operation::Wipe => store.wipe(),
+            Operation::Write(place, row) => {
+                store.write(*place, row);
+                None
+            }
+            Operation::Wipe => {
+                store.wipe();
+                None
+            }
         }
-        None
     }
 }
 
 // Gives two stores the same operations, one after another, and answers whether they answered every one alike.
-#[tactic(auto, using(crate::proofs::Runs::store_laws))]
+#[tactic(auto, using(crate::proofs::Runs::store_laws), unfolding(crate::specs::Operations::answers))]
 pub fn agree<X: Store, Y: Store>(x: &mut X, y: &mut Y, operations: &[Operation]) -> bool
     ensures answers { IsTrue result ↔ (answers (X.places x.old) operations.now ≡ answers (Y.places y.old) operations.now) }
     ensures x_after { X.places x.new ≡ after_all (X.places x.old) operations.now }

@@ -1,12 +1,6 @@
 -- What the search leaves to show of `agree`.
-use Rattle.std.proofs.Common.{refl}
-use Rattle.store.specs.Operations.{answers}
 use Rattle.store.proofs.Runs.{means_more, mark_more}
 use Rattle.store.proofs.operation.agree.Goals as goal
-
-pub loop-operation-init : goal.loop-operation-init
-unfolding answers
-loop-operation-init g c = record { x_after = refl; y_after = refl; answers = (λ t. refl, λ e. refl) }
 
 pub loop-operation-preserved : goal.loop-operation-preserved
 loop-operation-preserved g c =
