@@ -1,4 +1,3 @@
 -- The lemmas that several proofs share of `keyed`.
-pub mod Rows
 pub mod Latest
-pub mod Changed
+pub mod Found

@@ -1,2 +1,3 @@
 -- The definitions that the contracts cite of `keyed`.
+pub mod Equality
 pub mod Keys

@@ -1,12 +1,11 @@
 -- The laws of the table, computed once over all its rows and carried to each place; and the value in a row. Assumes nothing.
-use Rattle.std.proofs.Common.{◌≡◌, ℕ, ◌<◌, ◌≤◌, true, false, ◌&&◌, leb, map, get_or, take, Some, None, sym, refl, ap, ◌∙◌, ⊎_elim, arith}
+use Rattle.std.proofs.Common.{◌≡◌, ℕ, ◌<◌, true, false, ◌&&◌, ◌==◌, leb, map, get_or, take, Some, None, sym, refl, ap, ◌∙◌, arith}
 use Rattle.std.specs.List.{range_with_len}
 use Rattle.std.proofs.lemmas.List.FromFn.{get_or-map-range_with_len, fill_by_all}
 use Rattle.std.proofs.lemmas.List.{get_or-take, length-take-le}
-use Rattle.std.proofs.lemmas.Bool.{cases_lt, and_parts, leb-true}
+use Rattle.std.proofs.lemmas.Bool.{and_parts, leb-true, eqb-true}
 use Rattle.keyed.specs.Keys.{last_index}
-use Rattle.keyed.proofs.Latest.{index_has}
-use Rattle.keyed.proofs.Rows.{key_at, past_the_end}
+use Rattle.keyed.proofs.Latest.{index_passes}
 use Rattle.settings.specs.declared.table.Rule.TheVariants.{Any}
 use Rattle.settings.specs.declared.table.Setting.{Setting}
 use Rattle.settings.specs.Laws.{EachPlaceHasItsOwnIdentifier, AnIdentifierNamesItsSetting, FactoryValuesAreAllowed, ValuesFitARow, AValueIsTheFrontOfItsRow, SettingsLaws}
@@ -26,14 +25,8 @@ own = at_place (λ place. place_of (setting_at place).identifier) Some None refl
 
 names : AnIdentifierNamesItsSetting
 names identifier place is =
-    let has = index_has (map (λ (s : Setting). s.identifier) settings) identifier place is in
-    ⊎_elim
-    (λ (within : place < place_count).
-    let here = key_at (λ (s : Setting). s.identifier) settings place (setting 0 0 Any 0) within in
-    let both : Some (setting_at place).identifier ≡ Some identifier = sym here ∙ has in
-    (within, cc))
-    (λ (past : place_count ≤ place). absurd (past_the_end (λ (s : Setting). s.identifier) settings identifier place past has))
-    (cases_lt place place_count)
+    let found = index_passes (λ (s : Setting). s.identifier == identifier) settings place (setting 0 0 Any 0) is in
+    (found.0, eqb-true (setting_at place).identifier identifier found.1)
 
 allows : FactoryValuesAreAllowed
 allows = at_place (λ place. allowed place (factory place)) (λ place. true) false refl

@@ -1,5 +1,5 @@
 -- The settings, as one table: a row for each, in the order of the places. Assumes nothing.
-use Rattle.std.specs.Prelude.{ℕ, ◌-◌, max, Bool, true, not, ◌&&◌, List, [], ◌∷◌, ◌++◌, map, length, replicate, fold, Option, ◌==◌, nat_le, slice_index, slice_index_or}
+use Rattle.std.specs.Prelude.{ℕ, ◌-◌, max, Bool, true, not, ◌&&◌, List, [], ◌∷◌, ◌++◌, length, replicate, fold, Option, ◌==◌, nat_le, slice_index, slice_index_or}
 use Rattle.keyed.specs.Keys.{last_index}
 use Rattle.settings.specs.declared.table.Rule.{Rule}
 use Rattle.settings.specs.declared.table.Rule.TheVariants.{Any, AtMost, NotZero}
@@ -40,7 +40,7 @@ width place = (setting_at place).width
 
 -- the place of the setting with an identifier; none where no setting has it
 abbrev pub place_of : ℕ → Option ℕ
-place_of identifier = last_index (map (λ s. s.identifier) settings) identifier
+place_of identifier = last_index (λ s. s.identifier == identifier) settings
 
 -- whether a value keeps a rule, which speaks of its first byte
 abbrev pub keeps : Rule → ℕ → Bool

@@ -4,7 +4,8 @@ ghost use Rattle.settings.specs.Settings.{place_count};
 
 mod methods;
 
-#[derive(Clone, Copy)]
+// A ghost field, and no `impl Model`: that would hide the bound from clauses and laws, which take it from the place.
+#[derive(Clone, Copy, PartialEq, Eq, Debug)]
 pub struct Place {
     at: usize,
     ghost bound: { at < place_count },

@@ -11,6 +11,7 @@ pub const PLACES: usize = 8;
 pub const WIDEST: usize = 11;
 
 // Room for a value of any setting. The value stands at the start, and what lies past it is of no meaning.
+// A plain array with a width answered beside it, since a value is handed over in a row that the caller owns, with no heap.
 pub type Row = [u8; WIDEST];
 
 // What a setting asks of its values, by their first byte.
@@ -112,9 +113,11 @@ pub(crate) fn table() -> &'static [Setting; PLACES]
 
 // The table is searched by identifier.
 impl Keyed for Setting {
+    type Key = u8;
+
     ghost key = { λ s. s.identifier };
 
-    fn key(&self) -> usize {
-        usize::from(self.identifier)
+    fn key(&self) -> u8 {
+        self.identifier
     }
 }

@@ -4,8 +4,8 @@ use Rattle.std.specs.Option.{option_map}
 use Rattle.std.proofs.lemmas.List.{ext_get_or, get_or_past, get_or-set_same, get_or-set_other, get_or-replicate, length-replicate}
 use Rattle.std.proofs.lemmas.Bool.{cases_eq, cases_lt}
 use Rattle.settings.proofs.Tabulated.{value_front}
-use Rattle.store.specs.Places.{held, written, wiped}
-use Rattle.store.specs.Rows.{values_by, values_all, value_by, length_value}
+use Rattle.store.specs.Fits.{length_value, places_all, held-places_by}
+use Rattle.store.specs.Places.{written, wiped, places_by}
 use Rattle.settings.specs.Settings.{place_count, width}
 use Rattle.settings.specs.Values.{value_in, laid}
 
@@ -17,52 +17,44 @@ laid_front place row old part n long e is =
     λ i. value i ++ drop (count i) old
 
 module _ (rows : ℕ → Option (List ℕ)) (place : ℕ) (within : place < place_count) where
-  pub holds_some : (row : List ℕ) → rows place ≡ Some row → held (values_by rows) place ≡ Some (value_in place row)
-  holds_some row e = value_by rows place within ∙ ap (option_map (value_in place)) e
-
-  pub holds_none : rows place ≡ None → held (values_by rows) place ≡ None
-  holds_none e = value_by rows place within ∙ ap (option_map (value_in place)) e
-
   -- one place has another row, and every other place its old one
-  pub values-written : (more : ℕ → Option (List ℕ)) (row : List ℕ) → more place ≡ Some row → ((other : ℕ) → other ≢ place → more other ≡ rows other) → values_by more ≡ written (values_by rows) place row
-  values-written more row here elsewhere =
-      let long = values_all rows in
-      let same_length : length (values_by more) ≡ length (written (values_by rows) place row) = values_all more ∙ sym (length-set (values_by rows) place (Some (value_in place row)) ∙ long) in
-      ext_get_or None (values_by more) (written (values_by rows) place row) same_length
+  pub places_by-written : (more : ℕ → Option (List ℕ)) (row : List ℕ) → more place ≡ Some row → ((other : ℕ) → other ≢ place → more other ≡ rows other) → places_by more ≡ written (places_by rows) place row
+  places_by-written more row here elsewhere =
+      let long = places_all rows in
+      let same_length : length (places_by more) ≡ length (written (places_by rows) place row) = places_all more ∙ sym (length-set (places_by rows) place (Some (value_in place row)) ∙ long) in
+      ext_get_or None (places_by more) (written (places_by rows) place row) same_length
       (λ k inside.
-      let below : k < place_count = omega (arith, values_all more) in
+      let below : k < place_count = omega (arith, places_all more) in
       ⊎_elim
       (λ (same : k ≡ place).
-      value_by more k below
+      held-places_by more k below
       ∙ (λ i. option_map (value_in (same i)) (more (same i)))
       ∙ ap (option_map (value_in place)) here
-      ∙ sym (ap (λ j. get_or (written (values_by rows) place row) j None) same ∙ get_or-set_same (values_by rows) place (Some (value_in place row)) None (omega (arith, long))))
+      ∙ sym (ap (λ j. get_or (written (places_by rows) place row) j None) same ∙ get_or-set_same (places_by rows) place (Some (value_in place row)) None (omega (arith, long))))
       (λ (other : k ≢ place).
-      value_by more k below
+      held-places_by more k below
       ∙ ap (option_map (value_in k)) (elsewhere k other)
-      ∙ sym (value_by rows k below)
-      ∙ sym (get_or-set_other (values_by rows) place k (Some (value_in place row)) None other))
+      ∙ sym (held-places_by rows k below)
+      ∙ sym (get_or-set_other (places_by rows) place k (Some (value_in place row)) None other))
       (cases_eq k place))
 
-pub values_same : (rows others : ℕ → Option (List ℕ)) → ((place : ℕ) → place < place_count → rows place ≡ others place) → values_by rows ≡ values_by others
-values_same rows others same =
-    ext_get_or None (values_by rows) (values_by others) (values_all rows ∙ sym (values_all others))
+pub places_by_same : (rows others : ℕ → Option (List ℕ)) → ((place : ℕ) → place < place_count → rows place ≡ others place) → places_by rows ≡ places_by others
+places_by_same rows others same =
+    ext_get_or None (places_by rows) (places_by others) (places_all rows ∙ sym (places_all others))
     (λ k inside.
-    let below : k < place_count = omega (arith, values_all rows) in
-    value_by rows k below ∙ ap (option_map (value_in k)) (same k below) ∙ sym (value_by others k below))
+    let below : k < place_count = omega (arith, places_all rows) in
+    held-places_by rows k below ∙ ap (option_map (value_in k)) (same k below) ∙ sym (held-places_by others k below))
 
-pub values-wiped : (rows : ℕ → Option (List ℕ)) → ((place : ℕ) → rows place ≡ None) → values_by rows ≡ wiped
-values-wiped rows none =
-    ext_get_or None (values_by rows) wiped (values_all rows)
+pub places_by-wiped : (rows : ℕ → Option (List ℕ)) → ((place : ℕ) → rows place ≡ None) → places_by rows ≡ wiped
+places_by-wiped rows none =
+    ext_get_or None (places_by rows) wiped (places_all rows)
     (λ k inside.
-    let below : k < place_count = omega (arith, values_all rows) in
-    value_by rows k below ∙ ap (option_map (value_in k)) (none k) ∙ sym (get_or-replicate place_count k None None below))
+    let below : k < place_count = omega (arith, places_all rows) in
+    held-places_by rows k below ∙ ap (option_map (value_in k)) (none k) ∙ sym (get_or-replicate place_count k None None below))
 
--- the rows of all places in one list, a place's row at its number
-
-pub list_written : (rows : List (Option (List ℕ))) (place n : ℕ) (row : List ℕ) → place < place_count → length rows ≡ place_count → n ≡ place → values_by (λ p. get_or (set rows n (Some row)) p None) ≡ written (values_by (λ p. get_or rows p None)) place row
+pub list_written : (rows : List (Option (List ℕ))) (place n : ℕ) (row : List ℕ) → place < place_count → length rows ≡ place_count → n ≡ place → places_by (λ p. get_or (set rows n (Some row)) p None) ≡ written (places_by (λ p. get_or rows p None)) place row
 list_written rows place n row within long e =
-    values-written (λ p. get_or rows p None) place within (λ p. get_or (set rows n (Some row)) p None) row
+    places_by-written (λ p. get_or rows p None) place within (λ p. get_or (set rows n (Some row)) p None) row
     (ap (λ k. get_or (set rows k (Some row)) place None) e ∙ get_or-set_same rows place (Some row) None (omega arith))
     (λ other apart. ap (λ k. get_or (set rows k (Some row)) other None) e ∙ get_or-set_other rows place other (Some row) None apart)
 
@@ -73,5 +65,8 @@ no_row n p =
     (λ (past : n ≤ p). let long = length-replicate {A = Option (List ℕ)} n None in get_or_past (replicate n None) p None (omega arith))
     (cases_lt p n)
 
-pub list_wiped : values_by (λ p. get_or {A = Option (List ℕ)} (replicate place_count None) p None) ≡ wiped
-list_wiped = values-wiped (λ p. get_or {A = Option (List ℕ)} (replicate place_count None) p None) (no_row place_count)
+pub list_wiped : places_by (λ p. get_or {A = Option (List ℕ)} (replicate place_count None) p None) ≡ wiped
+list_wiped = places_by-wiped (λ p. get_or {A = Option (List ℕ)} (replicate place_count None) p None) (no_row place_count)
+
+-- what a read of a place leaves to show
+pub ruleset reads = (held-places_by, length_value)

@@ -1,33 +1,45 @@
 -- Lists of operations: one operation more, and what a place holds after them. Assumes nothing.
-use Rattle.std.proofs.Common.{◌≡◌, ℕ, ◌+◌, ◌<◌, Bool, true, false, cond, List, [], ◌∷◌, ◌++◌, length, get_or, take, drop, Some, None, Decides, Option, sym, refl, ap, ◌∙◌, subst, arith, length-set}
-use Rattle.std.specs.Option.{option_map}
+use Rattle.std.proofs.Common.{◌≡◌, ℕ, suc, ◌+◌, ◌<◌, Bool, ◌&&◌, ◌==◌, ◌↔◌, IsTrue, List, [], ◌∷◌, ◌++◌, length, get_or, take, drop, replicate, Some, None, Option, sym, refl, ap, ◌∙◌, subst, arith, length-set}
+use Rattle.std.specs.Option.{option_map, option_eq}
+use Rattle.std.specs.Cmp.Lexicographic.{pointwise}
 use Rattle.std.proofs.lemmas.List.{take_more, append_cancel_right, same_from_push, get_or-set_same, get_or-set_other, length-replicate}
 use Rattle.std.proofs.lemmas.List.Sums.{fold_push}
-use Rattle.std.proofs.lemmas.Bool.{both_ways}
+use Rattle.std.proofs.lemmas.Bool.Decides.{Decides-and, Decides-like, Decides-eqb}
+use Rattle.std.proofs.lemmas.Slice.Eq.{slice_eq-Decides}
+use Rattle.keyed.specs.Equality.{TellsApart, options}
 use Rattle.store.specs.declared.operation.Operation.{Operation}
 use Rattle.store.specs.declared.operation.Operation.TheVariants.{Read, Write, Wipe}
 use Rattle.store.specs.Laws.{Passes, LastWriteHolds, NothingAfterAWipe, AsAtFirst, StoreLaws}
-use Rattle.store.specs.Operations.{answer, after, answers, after_all}
+use Rattle.store.specs.Operations.{answer, shown, after, answers, after_all}
 use Rattle.store.specs.Places.{Values, held, written, wiped}
-use Rattle.settings.specs.Settings.{place_count}
-use Rattle.settings.specs.Values.{value_in, read_into}
+use Rattle.settings.specs.Settings.{place_count, widest}
+use Rattle.settings.specs.Values.{value_in}
 use Rattle.store.proofs.Meaning.{no_row}
 
--- what was read tells what was held
-read_tells : (u v : Option (List ℕ)) (row : List ℕ) → option_map length u ≡ option_map length v → read_into u row ≡ read_into v row → u ≡ v
-read_tells None None row e same = refl
-read_tells None (Some b) row e same = let z : ◌≡◌ {A = ℕ} 0 1 = cc in absurd (omega arith)
-read_tells (Some a) None row e same = let z : ◌≡◌ {A = ℕ} 0 1 = cc in absurd (omega arith)
-read_tells (Some a) (Some b) row e same =
-    let long : length a ≡ length b = cc in
-    ap Some (append_cancel_right a b (drop (length b) row) (ap (λ n. a ++ drop n row) (sym long) ∙ same))
+-- what a read shows tells what was held
+shown_tells : (u v : Option (List ℕ)) → option_map shown u ≡ option_map shown v → u ≡ v
+shown_tells None None e = refl
+shown_tells None (Some b) e = cc
+shown_tells (Some a) None e = cc
+shown_tells (Some a) (Some b) e =
+    let same : shown a ≡ shown b = cc in
+    let rest : drop (length a) (replicate widest 0) ≡ drop (length b) (replicate widest 0) = ap (λ p. drop p.0 (replicate widest 0)) same in
+    ap Some (append_cancel_right a b (drop (length b) (replicate widest 0)) (ap (λ l. a ++ l) (sym rest) ∙ ap (λ p. p.1) same))
 
--- two reads into equal rows: u and v are what was held, w and z the widths answered, a and b the rows after
-pub reads_decide : {u v : Option (List ℕ)} (row a b : List ℕ) (w z : Option ℕ) (t : Bool) → w ≡ option_map length u → z ≡ option_map length v → w ≡ z → a ≡ read_into u row → b ≡ read_into v row → Decides t (a ≡ b) → Decides t (u ≡ v)
-reads_decide {u} {v} row a b w z t wide other same left right rows = (
-  λ yes. read_tells u v row (sym wide ∙ same ∙ other) (sym left ∙ rows.0 yes ∙ right),
-  λ e. rows.1 (left ∙ ap (λ o. read_into o row) e ∙ sym right),
-)
+-- whether two reads showed the same: the test that `==` makes of a width and a row
+abbrev looks_same : ℕ × List ℕ → ℕ × List ℕ → Bool
+looks_same a b = a.0 == b.0 && pointwise ◌==◌ a.1 b.1
+
+looks_tell : TellsApart looks_same
+looks_tell a b =
+    Decides-like (looks_same a b) (λ both. λ i. (both.0 i, both.1 i)) (λ e. (ap (λ p. p.0) e, ap (λ p. p.1) e))
+    (Decides-and (a.0 == b.0) (pointwise ◌==◌ a.1 b.1) (Decides-eqb a.0 b.0) (slice_eq-Decides Decides-eqb a.1 b.1 (pointwise ◌==◌ a.1 b.1) refl))
+
+-- two stores that were given one operation show the same exactly where they answered it alike
+shows_same : (u v : Option (List ℕ)) (a b : Option (ℕ × List ℕ)) (told : Bool) → a ≡ option_map shown u → b ≡ option_map shown v → told ≡ option_eq looks_same a b → IsTrue told ↔ (u ≡ v)
+shows_same u v a b told left right is =
+    let tells = options looks_same looks_tell a b in
+    (λ yes. shown_tells u v (sym left ∙ tells.0 (sym is ∙ yes) ∙ right), λ e. is ∙ tells.1 (left ∙ ap (option_map shown) e ∙ sym right))
 
 answers_push : (values : Values) (operations : List Operation) (o : Operation) → answers values (operations ++ o ∷ []) ≡ answers values operations ++ answer (after_all values operations) o ∷ []
 unfolding answers
@@ -47,12 +59,11 @@ module _ (values others : Values) (operations : List Operation) (o : Operation) 
       same_from_push (answers values operations) (answers others operations) (answer (after_all values operations) o) (answer (after_all others operations) o)
       (sym (answers_push values operations o) ∙ all ∙ answers_push others operations o)
 
-  pub alike_more : (before here : Bool) → Decides before (answers values operations ≡ answers others operations) → Decides here NowAlike → Decides (cond here before false) (answers values (operations ++ o ∷ []) ≡ answers others (operations ++ o ∷ []))
-  alike_more before true so_far here = (λ t. more_alike (so_far.0 t) (here.0 refl), λ all. so_far.1 (were_alike all).0)
-  alike_more before false so_far here = (λ t. absurd (both_ways false refl t), λ all. here.1 (were_alike all).1)
+  alike_more : (before now : Bool) → IsTrue before ↔ (answers values operations ≡ answers others operations) → IsTrue now ↔ NowAlike → IsTrue (before && now) ↔ (answers values (operations ++ o ∷ []) ≡ answers others (operations ++ o ∷ []))
+  alike_more before now so_far here = Decides-like (before && now) (λ both. more_alike both.0 both.1) were_alike (Decides-and before now so_far here)
 
--- one turn of the loop that gives two stores the same operations: x and y are what they mean before it, p and q after it
-module _ (values others : Values) (operations : List Operation) (i : ℕ) (o : Operation) (within : i < length operations) (here : o ≡ get_or operations i o) where
+-- one turn of the loop that gives two stores the same operations: x and y are what they mean before it, p what one means after it
+module _ (operations : List Operation) (i : ℕ) (o : Operation) (within : i < length operations) (here : o ≡ get_or operations i o) where
   next : take (i + 1) operations ≡ take i operations ++ o ∷ []
   next = take_more operations i o within ∙ ap (λ e. take i operations ++ e ∷ []) (sym here)
 
@@ -60,17 +71,11 @@ module _ (values others : Values) (operations : List Operation) (i : ℕ) (o : O
   means_more start x p before step =
       step ∙ ap (λ s. after s o) before ∙ sym (fold_push after start (take i operations) o) ∙ ap (after_all start) (sym next)
 
-  pub mark_more : (x y : Values) (mark told then : Bool) → x ≡ after_all values (take i operations) → y ≡ after_all others (take i operations) → Decides mark (answers values (take i operations) ≡ answers others (take i operations)) → Decides told (answer x o ≡ answer y o) → then ≡ cond told mark false → Decides then (answers values (take (i + 1) operations) ≡ answers others (take (i + 1) operations))
-  mark_more x y mark told then ex ey so_far step is =
-      let aligned : Decides told (answer (after_all values (take i operations)) o ≡ answer (after_all others (take i operations)) o) = (λ t. sym (ap (λ s. answer s o) ex) ∙ step.0 t ∙ ap (λ s. answer s o) ey, λ e. step.1 (ap (λ s. answer s o) ex ∙ e ∙ sym (ap (λ s. answer s o) ey))) in
-      let more = alike_more values others (take i operations) o mark told so_far aligned in
-      (λ t. subst (λ (l : List Operation). answers values l ≡ answers others l) (sym next) (more.0 (sym is ∙ t)), λ e. is ∙ more.1 (subst (λ (l : List Operation). answers values l ≡ answers others l) next e))
-
-pub mark_then : (told mark then : Bool) → then ≡ false → told ≡ false → then ≡ cond told mark false
-mark_then told mark then is differ = is ∙ sym (ap (λ t. cond t mark false) differ)
-
-pub mark_else : (told mark then : Bool) → then ≡ mark → told ≡ true → then ≡ cond told mark false
-mark_else told mark then is agreed = is ∙ sym (ap (λ t. cond t mark false) agreed)
+  -- a and b are what the two stores showed, and `told` whether those were the same
+  pub mark_more : (values others x y : Values) (mark told : Bool) (a b : Option (ℕ × List ℕ)) → x ≡ after_all values (take i operations) → y ≡ after_all others (take i operations) → IsTrue mark ↔ (answers values (take i operations) ≡ answers others (take i operations)) → a ≡ option_map shown (answer x o) → b ≡ option_map shown (answer y o) → told ≡ option_eq looks_same a b → IsTrue (mark && told) ↔ (answers values (take (i + 1) operations) ≡ answers others (take (i + 1) operations))
+  mark_more values others x y mark told a b ex ey so_far left right is =
+      let here = shows_same (answer (after_all values (take i operations)) o) (answer (after_all others (take i operations)) o) a b told (left ∙ ap (λ s. option_map shown (answer s o)) ex) (right ∙ ap (λ s. option_map shown (answer s o)) ey) is in
+      subst (λ (l : List Operation). IsTrue (mark && told) ↔ (answers values l ≡ answers others l)) (sym next) (alike_more values others (take i operations) o mark told so_far here)
 
 after_long : (values : Values) (o : Operation) → length values ≡ place_count → length (after values o) ≡ place_count
 after_long values (Read place) long = long
@@ -92,7 +97,8 @@ passed_by values Wipe place passes = absurd passes
 
 as_at_first : AsAtFirst
 as_at_first values [] place pass = refl
-as_at_first values (o ∷ operations) place pass = as_at_first (after values o) operations place pass.1 ∙ passed_by values o place pass.0
+as_at_first values (o ∷ operations) place pass =
+    as_at_first (after values o) operations place (λ k d within. pass (suc k) d (omega arith)) ∙ passed_by values o place (pass 0 o (omega arith))
 
 last_write : LastWriteHolds
 last_write values long earlier later place row pass =

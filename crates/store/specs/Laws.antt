@@ -1,6 +1,5 @@
 -- What is promised of any store over lists of operations, and of a log's records, beside what each call does. Assumes nothing.
-use Rattle.std.specs.Prelude.{◌≡◌, ℕ, ◌<◌, ◌≤◌, List, ◌∷◌, ◌++◌, length, Some, None}
-use Rattle.std.specs.List.{AllByRecursion}
+use Rattle.std.specs.Prelude.{◌≡◌, ℕ, ◌<◌, ◌≤◌, List, ◌∷◌, ◌++◌, length, Some, None, All, ⊤}
 use Rattle.store.specs.declared.operation.Operation.{Operation}
 use Rattle.store.specs.declared.operation.Operation.TheVariants.{Read, Write, Wipe}
 use Rattle.settings.specs.declared.place.Place.{Place}
@@ -13,13 +12,13 @@ use Rattle.settings.specs.Values.{value_in}
 
 -- neither a write to the place nor a wipe
 abbrev pub Passes : ℕ → Operation → Type 0
-Passes place (Read p) = Unit {0}
+Passes place (Read p) = ⊤
 Passes place (Write p row) = p.at ≡ place → ⊥
 Passes place Wipe = ⊥
 
 -- neither a write to the place nor a wipe is among them
 abbrev pub Pass : ℕ → List Operation → Type 0
-Pass place operations = AllByRecursion (Passes place) operations
+Pass place operations = All (Passes place) operations
 
 -- a place holds the value of its last write, if no wipe came since
 abbrev pub LastWriteHolds : Type 0

@@ -1,7 +1,7 @@
 -- The definitions that the contracts cite of `store`.
 pub mod Places
+pub mod Fits
 pub mod Slots
-pub mod Rows
 pub mod Logs
 pub mod Operations
 pub mod Laws

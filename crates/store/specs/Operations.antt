@@ -1,5 +1,7 @@
 -- Lists of operations on a store: what they answer, and what the store means after them. Assumes nothing.
-use Rattle.std.specs.Prelude.{ℕ, List, [], ◌∷◌, None, fold, Option}
+use Rattle.std.specs.Prelude.{ℕ, List, [], ◌∷◌, length, replicate, None, fold, Option}
+use Rattle.settings.specs.Settings.{widest}
+use Rattle.settings.specs.Values.{laid}
 use Rattle.store.specs.declared.operation.Operation.{Operation}
 use Rattle.store.specs.declared.operation.Operation.TheVariants.{Read, Write, Wipe}
 use Rattle.store.specs.Places.{Values, held, written, wiped}
@@ -9,6 +11,10 @@ abbrev pub answer : Values → Operation → Option (List ℕ)
 answer values (Read place) = held values place.at
 answer values (Write place row) = None
 answer values Wipe = None
+
+-- a value as a read into a row of zeros shows it: its width, and the row
+abbrev pub shown : List ℕ → ℕ × List ℕ
+shown value = (length value, laid value (replicate widest 0))
 
 -- what the store means after one operation
 abbrev pub after : Values → Operation → Values

@@ -1,8 +1,8 @@
 // The operations on a store, and two stores that are given the same ones.
-ghost use Rattle.std.specs.Prelude.{◌≡◌, true, Decides};
+ghost use Rattle.std.specs.Prelude.{◌≡◌, ◌↔◌, IsTrue};
+ghost use Rattle.std.specs.Option.{option_map};
 ghost use Rattle.store.specs.Laws.{StoreLaws};
-ghost use Rattle.store.specs.Operations.{answer, after, answers, after_all};
-ghost use Rattle.store.specs.Places.{held};
+ghost use Rattle.store.specs.Operations.{answer, shown, after, answers, after_all};
 
 use crate::interface::Store;
 use settings::place::Place;
@@ -15,51 +15,43 @@ pub enum Operation {
     Wipe,
 }
 
+impl Operation {
+    // Gives a store this operation, and answers the width and the row of what was read, or none.
+    fn run<S: Store>(&self, store: &mut S) -> Option<(usize, Row)>
+        ensures answer { result ≡ option_map shown (answer (S.places store.old) self.now) }
+        ensures after { S.places store.new ≡ after (S.places store.old) self.now }
+    {
+        match self {
+            Operation::Read(place) => {
+                let mut row = [0; WIDEST];
+                let width = store.read(*place, &mut row)?;
+                Some((width, row))
+            }
+            Operation::Write(place, row) => {
+                store.write(*place, row);
+                None
+            }
+            Operation::Wipe => {
+                store.wipe();
+                None
+            }
+        }
+    }
+}
+
 // Gives two stores the same operations, one after another, and answers whether they answered every one alike.
+#[tactic(auto, using(crate::proofs::Runs::store_laws), unfolding(crate::specs::Operations::answers))]
 pub fn agree<X: Store, Y: Store>(x: &mut X, y: &mut Y, operations: &[Operation]) -> bool
-    ensures answers { Decides result (answers (X.Store.places x.old).values operations.now ≡ answers (Y.Store.places y.old).values operations.now) }
-    ensures x_after { (X.Store.places x.new).values ≡ after_all (X.Store.places x.old).values operations.now }
-    ensures y_after { (Y.Store.places y.new).values ≡ after_all (Y.Store.places y.old).values operations.now }
-    ensures alike { (X.Store.places x.old).values ≡ (Y.Store.places y.old).values → (result ≡ true) × ((X.Store.places x.new).values ≡ (Y.Store.places y.new).values) }
+    ensures answers { IsTrue result ↔ (answers (X.places x.old) operations.now ≡ answers (Y.places y.old) operations.now) }
+    ensures x_after { X.places x.new ≡ after_all (X.places x.old) operations.now }
+    ensures y_after { Y.places y.new ≡ after_all (Y.places y.old) operations.now }
+    ensures alike { X.places x.old ≡ Y.places y.old → IsTrue result × (X.places x.new ≡ Y.places y.new) }
     ensures laws { StoreLaws }
 {
+    // No `all`: both stores are given every operation, also after a disagreement.
     let mut alike = true;
     for operation in operations {
-        if !answer_alike(x, y, operation) {
-            alike = false;
-        }
+        alike &= operation.run(x) == operation.run(y);
     }
     alike
-}
-
-// Gives both stores one operation, and answers whether they answered it alike.
-fn answer_alike<X: Store, Y: Store>(x: &mut X, y: &mut Y, operation: &Operation) -> bool
-    ensures answers { Decides result (answer (X.Store.places x.old).values operation.now ≡ answer (Y.Store.places y.old).values operation.now) }
-    ensures x_after { (X.Store.places x.new).values ≡ after (X.Store.places x.old).values operation.now }
-    ensures y_after { (Y.Store.places y.new).values ≡ after (Y.Store.places y.old).values operation.now }
-{
-    match operation {
-        Operation::Read(place) => read_alike(x, y, *place),
-        Operation::Write(place, row) => {
-            x.write(*place, row);
-            y.write(*place, row);
-            true
-        }
-        Operation::Wipe => {
-            x.wipe();
-            y.wipe();
-            true
-        }
-    }
-}
-
-// Whether both stores have the same value in a place, or none.
-fn read_alike<X: Store, Y: Store>(x: &X, y: &Y, place: Place) -> bool
-    ensures { Decides result (held (X.Store.places x.now).values place.at ≡ held (Y.Store.places y.now).values place.at) }
-{
-    let mut left = [0; WIDEST];
-    let mut right = [0; WIDEST];
-    let one = x.read(place, &mut left);
-    let other = y.read(place, &mut right);
-    one == other && left == right
 }

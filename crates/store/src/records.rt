@@ -1,18 +1,17 @@
-// Records of places and their values in a row: the latest of a place, one record more, and what a full row keeps.
-ghost use Rattle.std.specs.Prelude.{◌≡◌, ◌≤◌, length, take};
-ghost use Rattle.std.specs.Option.{option_map};
-ghost use Rattle.store.specs.Logs.{latest_of, latest_each, appended};
-ghost use Rattle.settings.specs.Settings.{place_count};
-ghost use Rattle.settings.specs.Values.{laid};
+// Records of places and their values, and the search for a place's last one.
+ghost use Rattle.std.specs.Prelude.{◌≡◌, length, take};
+ghost use Rattle.std.specs.Option.{option_copied};
+ghost use Rattle.store.specs.Logs.{capacity, latest_of};
 
 use keyed::{Keyed, last_with};
-use settings::table::{PLACES, Row};
+use settings::table::Row;
 
 // A row always has room for this many records.
 pub const RECORDS: usize = 16;
 
 // A place, by its number, and the value that it was given.
-#[derive(Clone, Copy)]
+// The number is a plain one, not a `Place`: the row that a caller lends may hold anything, and so records of no place.
+#[derive(Clone, Copy, PartialEq, Eq, Debug)]
 pub struct Record {
     pub place: usize,
     pub value: Row,
@@ -20,6 +19,8 @@ pub struct Record {
 
 // Records are searched by place.
 impl Keyed for Record {
+    type Key = usize;
+
     ghost key = { λ r. r.place };
 
     fn key(&self) -> usize {
@@ -28,47 +29,18 @@ impl Keyed for Record {
 }
 
 // The first `count` records of a row, or all where it has no more.
+// No method of the log: a proof knows how long a fixed row is where the row is a parameter, and not where it stands behind a field.
 pub(crate) fn used(row: &[Record; RECORDS], count: usize) -> &[Record]
-    ensures { result.now ≡ take count row.now }
+    ensures records { result.now ≡ take count row.now }
+    ensures long { length row.now ≡ capacity }
 {
-    if count < RECORDS { &row[0..count] } else { row }
+    row.get(..count).unwrap_or(row)
 }
 
 // The last record of a place, or none.
 pub(crate) fn latest(records: &[Record], place: usize) -> Option<&Record>
-    ensures { option_map (λ x. x.now) result ≡ latest_of records.now place }
+    ensures { option_copied result ≡ latest_of records.now place }
 {
     let i = last_with(records, place)?;
     Some(&records[i])
-}
-
-// Adds a record after the first `count`, and answers how many there are then. A full row first gives up all but each place's latest.
-pub(crate) fn append(row: &mut [Record; RECORDS], count: usize, added: Record) -> usize
-    ensures count { result ≡ length (appended (take count row.old) added) }
-    ensures row { row.new ≡ laid (appended (take count row.old) added) row.old }
-{
-    if count < RECORDS {
-        row[count] = added;
-        return count + 1;
-    }
-    let left = compact(row);
-    row[left] = added;
-    left + 1
-}
-
-// Keeps each place's latest record, in the order of the places, and answers how many there are.
-fn compact(row: &mut [Record; RECORDS]) -> usize
-    ensures few { result ≤ place_count }
-    ensures count { result ≡ length (latest_each row.old) }
-    ensures row { row.new ≡ laid (latest_each row.old) row.old }
-{
-    let full = *row;
-    let mut count = 0;
-    for place in 0..PLACES {
-        if let Some(record) = latest(&full, place) {
-            row[count] = *record;
-            count += 1;
-        }
-    }
-    count
 }

@@ -7,11 +7,12 @@ use settings::place::Place;
 use settings::table::Row;
 
 // Lays the value of a place that stands in `held` into `row`, and answers its width.
+#[tactic(auto, using(crate::proofs::Meaning::laid_front, settings::proofs::Tabulated::fits))]
 pub(crate) fn lay(place: Place, held: &Row, row: &mut Row) -> usize
     ensures width { result ≡ width place.at }
     ensures row { row.new ≡ laid (value_in place.at held.now) row.old }
 {
     let width = place.width();
-    row[0..width].copy_from_slice(&held[0..width]);
+    row[..width].copy_from_slice(&held[..width]);
     width
 }

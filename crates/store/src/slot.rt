@@ -1,7 +1,7 @@
 // The slot store: a slot for each setting.
 ghost use Rattle.std.specs.Prelude.{◌≡◌};
-ghost use Rattle.store.specs.Places.{held, wiped};
-ghost use Rattle.store.specs.Slots.{slot_places};
+ghost use Rattle.store.specs.Places.{wiped};
+ghost use Rattle.store.specs.Slots.{slot_of, slot_places};
 
 use crate::interface::Store;
 use crate::rows::lay;
@@ -15,8 +15,9 @@ pub struct SlotStore {
 
 impl SlotStore {
     // A store with no value in any place.
+    #[tactic(auto, using(crate::proofs::Meaning::list_wiped))]
     pub fn new() -> SlotStore
-        ensures { (slot_places result).values ≡ wiped }
+        ensures { slot_places result ≡ wiped }
     {
         SlotStore {
             rows: [None; PLACES],
@@ -25,19 +26,23 @@ impl SlotStore {
 }
 
 impl Store for SlotStore {
+    ghost use Rattle.store.specs.Fits.{places_fit};
+
     ghost places = { slot_places };
 
+    ghost fits = { λ store. places_fit (slot_of store) };
+
+    #[tactic(auto, using(crate::proofs::Meaning::reads))]
     fn read(&self, place: Place, row: &mut Row) -> Option<usize> {
-        match &self.rows[place.number()] {
-            Some(held) => Some(lay(place, held, row)),
-            None => None,
-        }
+        let held = self.rows[usize::from(place)].as_ref()?;
+        Some(lay(place, held, row))
     }
 
     fn write(&mut self, place: Place, row: &Row) {
-        self.rows[place.number()] = Some(*row);
+        self.rows[usize::from(place)] = Some(*row);
     }
 
+    #[tactic(auto, using(crate::proofs::Meaning::list_wiped))]
     fn wipe(&mut self) {
         self.rows = [None; PLACES];
     }

@@ -19,30 +19,19 @@ const SETTINGS: [(u8, usize, &[u8], &[u8], u8); PLACES] = [
 fn allows(place: Place, first: u8, count: usize) -> bool {
     let mut value = [0; WIDEST + 1];
     value[0] = first;
-    count <= value.len() && place.allows(&value[0..count])
+    value.get(..count).is_some_and(|value| place.allows(value))
 }
 
 // Whether a place takes a first byte at its own width, and at no other.
 fn takes(place: Place, first: u8) -> bool {
-    let mut taken = false;
-    for count in 0..=WIDEST + 1 {
-        if allows(place, first, count) {
-            if count != place.width() {
-                return false;
-            }
-            taken = true;
-        }
-    }
-    taken
+    (0..=WIDEST + 1).all(|count| allows(place, first, count) == (count == place.width()))
 }
 
 #[test]
 fn every_row_of_the_table(rt: HostRuntime) -> Result<(), Fail> {
     for (number, (identifier, width, allowed, refused, last)) in SETTINGS.iter().enumerate() {
-        let Some(place) = Place::of_identifier(*identifier) else {
-            return Err(Fail::new("no place"));
-        };
-        assert!(rt; place.number() == number && place.width() == *width);
+        let place = Place::of_identifier(*identifier).ok_or_else(|| Fail::new("no place"))?;
+        assert!(rt; usize::from(place) == number && place.width() == *width);
         for first in *allowed {
             assert!(rt; takes(place, *first));
         }
@@ -52,7 +41,7 @@ fn every_row_of_the_table(rt: HostRuntime) -> Result<(), Fail> {
         let mut row = [0xee; WIDEST];
         assert!(rt; place.factory(&mut row) == *width && 0 < *width && *width <= WIDEST);
         let mut expected = [0xee; WIDEST];
-        expected[0..*width].fill(0);
+        expected[..*width].fill(0);
         expected[*width - 1] = *last;
         assert_eq!(rt; row, expected);
     }
@@ -62,10 +51,7 @@ fn every_row_of_the_table(rt: HostRuntime) -> Result<(), Fail> {
 #[test]
 fn numbers_that_name_no_place(rt: HostRuntime) {
     for identifier in 0..=255 {
-        let mut known = false;
-        for (named, _, _, _, _) in SETTINGS {
-            known |= named == identifier;
-        }
+        let known = SETTINGS.iter().any(|(named, ..)| *named == identifier);
         assert_eq!(rt; Place::of_identifier(identifier).is_some(), known);
     }
     assert!(rt; Place::new(PLACES - 1).is_some() && Place::new(PLACES).is_none());

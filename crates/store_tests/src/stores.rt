@@ -15,16 +15,17 @@ const OLD: Record = Record {
     value: [0x55; WIDEST],
 };
 
+// The place with this number; a test fails where there is none.
+fn place(number: usize) -> Result<Place, Fail> {
+    Place::new(number).ok_or_else(|| Fail::new("no place"))
+}
+
 // Whether a store holds a value of these bytes in a place.
 fn holds<S: Store>(store: &S, place: Place, byte: u8) -> bool {
     let mut row = [0xee; WIDEST];
-    let mut expected = [0xee; WIDEST];
     let width = place.width();
-    if width > WIDEST {
-        return false;
-    }
-    expected[0..width].fill(byte);
-    store.read(place, &mut row) == Some(width) && row == expected
+    let laid = |(i, held): (usize, &u8)| *held == if i < width { byte } else { 0xee };
+    store.read(place, &mut row) == Some(width) && row.iter().enumerate().all(laid)
 }
 
 // Whether a store holds nothing in a place, and leaves the row as it was.
@@ -35,13 +36,9 @@ fn lacks<S: Store>(store: &S, place: Place) -> bool {
 
 // Whether both stores answer a read of every place alike.
 fn alike(slot: &mut SlotStore, log: &mut LogStore) -> bool {
-    let mut alike = true;
-    for number in 0..PLACES {
-        if let Some(place) = Place::new(number) {
-            alike &= agree(slot, log, &[Operation::Read(place)]);
-        }
-    }
-    alike
+    (0..PLACES)
+        .filter_map(Place::new)
+        .all(|place| agree(slot, log, &[Operation::Read(place)]))
 }
 
 // Writes as often as said, each time another value, to one place or else to each in turn, and compares after every write.
@@ -53,9 +50,7 @@ fn write(
     times: u8,
 ) -> Result<(), Fail> {
     for byte in 0..times {
-        let Some(place) = Place::new(one.unwrap_or(usize::from(byte) % PLACES)) else {
-            return Err(Fail::new("no place"));
-        };
+        let place = place(one.unwrap_or(usize::from(byte) % PLACES))?;
         assert!(rt; agree(slot, log, &[Operation::Write(place, [byte; WIDEST])]));
         assert!(rt; holds(slot, place, byte) && holds(log, place, byte) && alike(slot, log));
     }
@@ -94,9 +89,7 @@ fn far_past_the_row(rt: HostRuntime) -> Result<(), Fail> {
 #[test]
 fn a_store_starts_empty(rt: HostRuntime) -> Result<(), Fail> {
     let mut row = [OLD; RECORDS];
-    let Some(place) = Place::new(OLD.place) else {
-        return Err(Fail::new("no place"));
-    };
+    let place = place(OLD.place)?;
     assert!(rt; lacks(&SlotStore::new(), place));
     let mut log = LogStore::new(&mut row);
     assert!(rt; lacks(&log, place));
@@ -106,9 +99,10 @@ fn a_store_starts_empty(rt: HostRuntime) -> Result<(), Fail> {
         lacks(&LogStore::new(&mut row), place),
         "a second log on the same row"
     );
-    assert!(rt;
-        row[0].place == OLD.place && row[0].value == [1; WIDEST],
-        "the row is the caller's again"
-    );
+    let written = Record {
+        place: OLD.place,
+        value: [1; WIDEST],
+    };
+    assert_eq!(rt; row[0], written, "the row is the caller's again");
     Ok(())
 }

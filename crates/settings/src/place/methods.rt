@@ -12,6 +12,7 @@ use keyed::last_with;
 
 impl Place {
     // The place with this number; none where no place has it.
+    // No `TryFrom`: a number without a place is no error, and is answered with none, as by NonZero's `new`.
     pub fn new(number: usize) -> Option<Place>
         ensures { option_map (λ p. p.at) result ≡ then_some (nat_lt number place_count) number }
     {
@@ -23,20 +24,13 @@ impl Place {
     }
 
     // The place of the setting with this identifier; none where no setting has it.
+    #[tactic(auto, using(crate::proofs::Tabulated::settings_laws))]
     pub fn of_identifier(identifier: u8) -> Option<Place>
         ensures place { option_map (λ p. p.at) result ≡ place_of identifier }
         ensures laws { SettingsLaws }
     {
-        match last_with(table(), usize::from(identifier)) {
-            Some(at) => Some(Place { at }),
-            None => None,
-        }
-    }
-
-    pub fn number(self) -> usize
-        ensures { result ≡ self.at }
-    {
-        self.at
+        let at = last_with(table(), identifier)?;
+        Some(Place { at })
     }
 
     // How many bytes a value of this setting has.
@@ -64,8 +58,17 @@ impl Place {
     {
         let setting = table()[self.at];
         let width = setting.width;
-        row[0..width].fill(0);
+        row[..width].fill(0);
         row[width - 1] = setting.factory;
         width
+    }
+}
+
+// The number of a place.
+impl From<Place> for usize {
+    ghost from_gives = { λ place number. number ≡ place.at };
+
+    fn from(place: Place) -> usize {
+        place.at
     }
 }

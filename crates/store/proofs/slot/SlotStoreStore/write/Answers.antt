@@ -7,4 +7,4 @@ use Rattle.store.proofs.slot.SlotStoreStore.write.Goals as goal
 pub returns : goal.returns
 returns c =
     let long : length c.args.self.now.rows ≡ place_count = search rules in
-    record { places = list_written c.args.self.now.rows c.args.place.at c.number.result c.args.row.now c.args.place.bound long c.number.ensures }
+    record { places = list_written c.args.self.now.rows c.args.place.at c.from.result c.args.row.now c.args.place.bound long c.from.ensures }
