@@ -2,7 +2,7 @@
 use Rattle.std.proofs.Common.{◌≡◌, ◌≢◌, ℕ, ◌<◌, List, length, get_or, set, Some, None, Option, sym, refl, ap, ◌∙◌, ◌⊎◌, inl, inr, ⊎_elim, arith}
 use Rattle.std.specs.Option.{option_flatten, ForSome}
 use Rattle.std.proofs.lemmas.Bool.{cases_eq}
-use Rattle.std.proofs.lemmas.Option.{none-some, same_Some}
+use Rattle.std.proofs.lemmas.Grind.{get_or-set_at}
 use Rattle.std.proofs.lemmas.List.{length-set, get_or-set_same, get_or-set_other, set-get_or}
 use Rattle.std.proofs.lemmas.List.FromFn.{fill_by_all}
 use Rattle.keyed.specs.Keys.{IsLast, IsAbsent}
@@ -19,10 +19,7 @@ unfolding services_in
 services_but es fs id v lawful is_id here elsewhere =
     let long = length-services es in
     sym (fill_by_all (read_in fs) (set (services_in es) id v) ids None (length-set (services_in es) id v ∙ long) (λ q q_id.
-    ⊎_elim
-    (λ (same : q ≡ id). rw same (get_or-set_same (services_in es) id v None (omega arith) ∙ sym here))
-    (λ (other : q ≢ id). get_or-set_other (services_in es) id q v None other ∙ get_or-services es q lawful ∙ sym (elsewhere q other))
-    (cases_eq q id)))
+    grind (arith, cases_eq q id, get_or-set_at (services_in es) id q v None, get_or-set_other (services_in es) id q v None, get_or-services es q lawful, elsewhere q, here)))
 
 -- what the entries hold once one is changed
 pub holds-set : (es : List (Option Service)) (at i : ℕ) (e : Option Service) (t : Service) → Holds (set es at e) i t → ((i ≡ at) × (e ≡ Some t)) ⊎ ((i ≢ at) × Holds es i t)
@@ -37,13 +34,12 @@ place-set : (es : List (Option Service)) (id at : ℕ) (e : Option Service) → 
 place-set es id at e place own = record {
   within = let inside = place.within in omega (arith, length-set es at e);
   own = λ s here. own s (sym (get_or-set_same es at e None place.within) ∙ here);
-  only = λ i s here same. ⊎_elim (λ (there : (i ≡ at) × (e ≡ Some s)). there.0) (λ (other : (i ≢ at) × Holds es i s). place.only i s other.1 same) (holds-set es at i e s here);
+  only = λ i s here same. grind (arith, holds-set es at i e s here, place.only);
 }
 
 read_changed : (es : List (Option Service)) (id at : ℕ) (e : Option Service) → IsPlaceFor es id at → ForSome e (λ s. s.id ≡ id) → read_in (set es at e) id ≡ e
 read_changed es id at None place own =
-    read_none (set es at None) id (λ i t here same.
-    ⊎_elim (λ (there : (i ≡ at) × (None ≡ Some t)). none-some t there.1) (λ (other : (i ≢ at) × Holds es i t). other.0 (place.only i t other.1 same)) (holds-set es at i None t here))
+    read_none (set es at None) id (λ i t here same. grind (arith, holds-set es at i None t here, place.only))
 read_changed es id at (Some s) place own =
     read_only (set es at (Some s)) id at s (place-set es id at (Some s) place own) (get_or-set_same es at (Some s) None place.within)
 
@@ -59,13 +55,11 @@ some_held (Some s) id key = (s, refl, cc)
 
 -- the entry that has an id is its place
 pub place_known : (es : List (Option Service)) (id at : ℕ) → Sound es → at < length es → IsLast key_in (Some id) es at → IsPlaceFor es id at
-place_known es id at sound within last =
-    let held = some_held (get_or es at None) id (last.0 None) in
-    record {
-      within = within;
-      own = λ s here. same_Some s.id id (sym (ap key_in here) ∙ last.0 None);
-      only = λ i s here same. sound.distinct i at s held.0 here held.1 (same ∙ sym held.2);
-    }
+place_known es id at sound within last = record {
+  within = within;
+  own = λ s here. grind (arith, last.0 None);
+  only = λ i s here same. grind (arith, last.0 None, some_held (get_or es at None) id (last.0 None), sound.distinct);
+}
 
 pub freed : (es : List (Option Service)) (id at : ℕ) → Sound es → id < ids → at < length es → IsLast key_in (Some id) es at → services_in (set es at None) ≡ set (services_in es) id None
 freed es id at sound is_id within last = changed es id at None sound is_id (place_known es id at sound within last) (λ s is. cc)

@@ -2,15 +2,16 @@
 use Rattle.std.proofs.Common.{◌≡◌, ℕ, suc, ◌+◌, ◌<◌, false, cond, List, [], ◌∷◌, length, get_or, set, map, is_some, is_none, Some, None, count_by, Option, sym, refl, ap, ◌∙◌, arith}
 use Rattle.std.specs.List.{range_with_len}
 use Rattle.std.specs.Option.{option_flatten, option_or}
-use Rattle.std.proofs.lemmas.Option.{same_Some}
-use Rattle.std.proofs.lemmas.List.Sums.{sum_by-cons, sum_by-set}
+use Rattle.std.proofs.lemmas.List.Sums.{sum_by-cons, sum_by-set, length-filter}
+use Rattle.std.proofs.lemmas.Bool.{ne_eqb}
+use Rattle.std.proofs.lemmas.List.Filters.{length-filter_both}
 use Rattle.keyed.specs.Keys.{last_of}
 use Rattle.service.specs.declared.value.Service.{Service}
 use Rattle.service.specs.Rule.{ids}
 use Rattle.services.specs.Entries.{capacity, Distinct, Lawful, Sound, IsPlaceFor}
 use Rattle.services.specs.Services.{read_in, services_in, held}
 use Rattle.services.proofs.Changing.{services_but}
-use Rattle.services.proofs.Reading.{has, held_id, lacks, read_only, read_none, length-services, get_or-services}
+use Rattle.services.proofs.Reading.{has, held_id, read_only, read_none, length-services, get_or-services}
 
 -- what an id counts for: one where a service is held
 abbrev pub one_if_held : Option Service → ℕ
@@ -33,37 +34,38 @@ free_before : (es : List (Option Service)) → services_in (None ∷ es) ≡ ser
 unfolding services_in
 free_before es = λ i. map (λ q. read_before None es q refl i) (range_with_len 0 ids)
 
-held_before : (s : Service) (es : List (Option Service)) → Distinct (Some s ∷ es) → Lawful (Some s ∷ es) → held (services_in (Some s ∷ es)) ≡ held (services_in es) + 1
-held_before s es distinct lawful =
+-- an entry more before the others holds one id more, or is free
+held_before : (e : Option Service) (es : List (Option Service)) → Distinct (e ∷ es) → Lawful (e ∷ es) → held (services_in (e ∷ es)) ≡ one_if_held e + held (services_in es)
+held_before None es distinct lawful = let same = ap held (free_before es) in omega arith
+held_before (Some s) es distinct lawful =
     let is_id = held_id s (lawful 0 s refl) in
     let rest : Lawful es = λ i t here. lawful (suc i) t here in
     let place : IsPlaceFor (Some s ∷ es) s.id 0 = record {
       within = omega arith;
-      own = λ t here. sym (ap (λ x. x.id) (same_Some s t here));
+      own = λ t here. grind arith;
       only = λ i t here same. distinct i 0 t s here refl same;
     } in
-    let now = services_but es (Some s ∷ es) s.id (Some s) rest is_id (read_only (Some s ∷ es) s.id 0 s place refl) (λ q other. read_before (Some s) es q (lacks (Some s) q (λ t is same. other (sym same ∙ place.own t is)))) in
-    let none = get_or-services es s.id rest ∙ read_none es s.id (λ i t here same. let z = distinct (suc i) 0 t s here refl same in omega arith) in
-    let sum = held-set (services_in es) s.id (Some s) (let long = length-services es in omega arith) in
-    let was : one_if_held (get_or (services_in es) s.id None) ≡ 0 = ap one_if_held none in
-    ap held now ∙ omega arith
+    let now = services_but es (Some s ∷ es) s.id (Some s) rest is_id (read_only (Some s ∷ es) s.id 0 s place refl) (λ q other. read_before (Some s) es q (ne_eqb s.id q (λ same. other (sym same)))) in
+    let none = read_none es s.id (λ i t here same. let next = distinct (suc i) 0 t s here refl same in omega arith) in
+    let more = held-set (services_in es) s.id (Some s) (let long = length-services es in omega arith) in
+    ap held now ∙ grind (arith, more, none, get_or-services es s.id rest)
 
-none_held : count_by {X = Option Service} is_none [] + held (services_in []) ≡ 0
+none_held : held (services_in []) ≡ 0
 unfolding held services_in last_of
 none_held = refl
 
-counted : (es : List (Option Service)) → Distinct es → Lawful es → count_by is_none es + held (services_in es) ≡ length es
+-- as many ids are held as entries hold a service
+counted : (es : List (Option Service)) → Distinct es → Lawful es → held (services_in es) ≡ count_by is_some es
 counted [] distinct lawful = none_held
-counted (None ∷ es) distinct lawful =
-    let rest = counted es (λ i j s t a b same. let z = distinct (suc i) (suc j) s t a b same in omega arith) (λ i s here. lawful (suc i) s here) in
-    let free = sum_by-cons (λ e. cond (is_none e) 1 0) None es in
-    let same = ap held (free_before es) in
-    omega arith
-counted (Some s ∷ es) distinct lawful =
-    let rest = counted es (λ i j s t a b same. let z = distinct (suc i) (suc j) s t a b same in omega arith) (λ i s here. lawful (suc i) s here) in
-    let free = sum_by-cons (λ e. cond (is_none e) 1 0) (Some s) es in
-    let more = held_before s es distinct lawful in
+counted (e ∷ es) distinct lawful =
+    let rest = counted es (λ i j s t a b same. let next = distinct (suc i) (suc j) s t a b same in omega arith) (λ i s here. lawful (suc i) s here) in
+    let this = held_before e es distinct lawful in
+    let more = sum_by-cons one_if_held e es in
     omega arith
 
 pub counted_sound : (es : List (Option Service)) → Sound es → count_by is_none es + held (services_in es) ≡ capacity
-counted_sound es sound = counted es sound.distinct sound.lawful ∙ sound.all
+counted_sound es sound =
+    let each = counted es sound.distinct sound.lawful in
+    let all = length-filter_both is_some is_none (λ e. refl) es in
+    let whole = sound.all in
+    omega (arith, length-filter is_some es, length-filter is_none es)

@@ -32,11 +32,7 @@ Nowhere es id = (i : ℕ) (s : Service) → Holds es i s → s.id ≢ id
 
 -- a service is held within the entries
 pub held_within : (es : List (Option Service)) (i : ℕ) (s : Service) → Holds es i s → i < length es
-held_within es i s here =
-    ⊎_elim
-    (λ (within : i < length es). within)
-    (λ (past : length es ≤ i). let free = get_or_past es i None past in cc)
-    (cases_lt i (length es))
+held_within es i s here = grind (arith, get_or_past es i None)
 
 -- what is read of an id that stands in one entry alone, and of one that stands in none
 pub read_only : (es : List (Option Service)) (id at : ℕ) (s : Service) → IsPlaceFor es id at → Holds es at s → read_in es id ≡ Some s

@@ -70,11 +70,10 @@ taken ss s right rule lasts room =
     let within : s.id < length ss = let all = right.all_ids in omega arith in
     let without = held-set ss s.id None within in
     let with = held-set ss s.id (Some s) within in
-    let few = right.few in
     let others = eqb-false (held (set ss s.id None)) capacity room in
-    right-set ss s (Some s) right is_id (omega (arith, others)) (λ t is.
-    let same : s ≡ t = same_Some s t is in
-    record { same_id = sym (ap (λ x. x.id) same); rule = sym (ap keeps_rule same) ∙ rule; lasting = λ none. eqb-false s.time 0 lasts (ap (λ x. x.time) same ∙ none) })
+    let few = right.few in
+    let own : Rightful s.id s = record { same_id = refl; rule = rule; lasting = eqb-false s.time 0 lasts } in
+    right-set ss s (Some s) right is_id (omega (arith, others)) (λ t is. rw (sym (same_Some s t is)) own)
 
 gone : (ss : List (Option Service)) (s : Service) → Right ss → keeps_rule s ≡ true → Right (set ss s.id None)
 gone ss s right rule =
