@@ -8,9 +8,9 @@ use Rattle.service.specs.declared.domain.UnknownDomain.{UnknownDomain}
 abbrev pub domain_of : ℕ → Option Domain
 domain_of number =
     if number == 0 then Some Publish
-    else (if number == 1 then Some Event
-    else (if number == 3 then Some BlockTransfer
-    else None))
+    else if number == 1 then Some Event
+    else if number == 3 then Some BlockTransfer
+    else None
 
 -- the result is the domain with this number, or where there is none an error with the number
 abbrev pub Reads : ℕ → Result Domain UnknownDomain → Type 0

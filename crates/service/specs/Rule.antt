@@ -16,5 +16,5 @@ is_deletion s = s.time == 0
 abbrev pub keeps_rule : Service → Bool
 keeps_rule s =
     if nat_le ids s.id then false
-    else (if is_deletion s then true
-    else option_map_or (λ domain. flags_fit domain s.flags) (domain_of s.domain) false)
+    else if is_deletion s then true
+    else option_map_or (λ domain. flags_fit domain s.flags) (domain_of s.domain) false

@@ -1,5 +1,5 @@
 -- The entries of a table, each with the service that it holds or free: their keys, and what holds of all. Assumes nothing.
-use Rattle.std.specs.Prelude.{◌≡◌, ℕ, ◌<◌, Bool, true, not, ◌&&◌, List, length, Some, None, Option, slice_index_or}
+use Rattle.std.specs.Prelude.{◌≡◌, ℕ, ◌<◌, Bool, IsTrue, not, ◌&&◌, List, length, Some, None, Option, slice_index_or}
 use Rattle.std.specs.Option.{option_map}
 use Rattle.service.specs.declared.value.Service.{Service}
 use Rattle.service.specs.Rule.{is_deletion, keeps_rule}
@@ -26,7 +26,7 @@ Distinct es = (i j : ℕ) (s t : Service) → Holds es i s → Holds es j t → 
 
 -- every value in an entry may be held
 abbrev pub Lawful : List (Option Service) → Type 0
-Lawful es = (i : ℕ) (s : Service) → Holds es i s → may_be_held s ≡ true
+Lawful es = (i : ℕ) (s : Service) → Holds es i s → IsTrue (may_be_held s)
 
 -- what holds of the entries of every table: there are as many as it can hold, their ids are distinct, and their values may be held
 pub record Sound (es : List (Option Service)) : Type 0 where

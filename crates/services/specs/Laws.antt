@@ -1,5 +1,5 @@
 -- What is promised of tables of services, beside what each call does. Assumes nothing.
-use Rattle.std.specs.Prelude.{◌≡◌, ℕ, ◌+◌, ◌≤◌, true, false, List, length, is_none, Some, None, Ok, Err, count_by, Option, ◌≢◌, if◌then◌else◌, slice_index_or, slice_set}
+use Rattle.std.specs.Prelude.{◌≡◌, ℕ, ◌+◌, ◌≤◌, ◌↔◌, true, false, List, length, is_none, Some, None, Ok, Err, count_by, Option, ◌≢◌, if◌then◌else◌, slice_index_or, slice_set}
 use Rattle.services.specs.declared.table.Refusal.{Refusal}
 use Rattle.services.specs.declared.table.Refusal.TheVariants.{Rule, Full}
 use Rattle.services.specs.declared.table.Table.{Table}
@@ -45,13 +45,11 @@ pub record NoRoom (ss : List (Option Service)) (s : Service) : Type 0 where
 
 -- full is answered exactly where there is no room
 abbrev pub FullExactlyWithoutRoom : Type 0
-FullExactlyWithoutRoom =
-    (ss : List (Option Service)) (s : Service) → (answer_to ss s ≡ Err Full → NoRoom ss s) × (NoRoom ss s → answer_to ss s ≡ Err Full)
+FullExactlyWithoutRoom = (ss : List (Option Service)) (s : Service) → (answer_to ss s ≡ Err Full) ↔ NoRoom ss s
 
 -- the rule is answered exactly where the value breaks it
 abbrev pub RuleExactlyWhereBroken : Type 0
-RuleExactlyWhereBroken =
-    (ss : List (Option Service)) (s : Service) → (answer_to ss s ≡ Err Rule → keeps_rule s ≡ false) × (keeps_rule s ≡ false → answer_to ss s ≡ Err Rule)
+RuleExactlyWhereBroken = (ss : List (Option Service)) (s : Service) → (answer_to ss s ≡ Err Rule) ↔ (keeps_rule s ≡ false)
 
 -- the value's id reads as the value, or as none where its time is 0, and every other id as before
 pub record Taken (before after : List (Option Service)) (s : Service) : Type 0 where

@@ -1,5 +1,5 @@
 // The calls on a table of services: made empty, a value accepted, an id read, the entries left, emptied.
-ghost use Rattle.std.specs.Prelude.{◌≡◌, ◌+◌, ◌<◌, ◌↔◌, true, IsNone, IfSome, MatchOption, if◌then◌else◌, Some, None, Ok, Err, slice_index_or, slice_set};
+ghost use Rattle.std.specs.Prelude.{◌≡◌, ◌+◌, ◌<◌, ◌↔◌, IsTrue, IsNone, IfSome, MatchOption, if◌then◌else◌, Some, None, Ok, Err, slice_index_or, slice_set};
 ghost use Rattle.keyed.specs.Keys.{FindsLast, IsAbsent};
 ghost use Rattle.services.specs.declared.table.Refusal.TheVariants.{Full};
 ghost use Rattle.services.specs.Accepting.{is_full, answer_to, afterwards, OthersStay, PutInPlace};
@@ -92,9 +92,9 @@ impl Table {
     }
 
     // Puts a value into the entry that has its id, or where no entry has it into a free one.
-    #[tactic(auto, using(crate::proofs::Changing::changed, crate::proofs::Placing::sound_placed))]
+    #[tactic(auto, using(crate::proofs::Changing::changed))]
     fn place(&mut self, service: Service) -> Result<(), Refusal>
-        requires { may_be_held service ≡ true }
+        requires { IsTrue (may_be_held service) }
         ensures answer { result ≡ (if is_full (services self.old) service then Err Full else Ok tt) }
         ensures after { services self.new ≡ (if is_full (services self.old) service then services self.old else slice_set (services self.old) service.id (Some service)) }
         ensures in_place { PutInPlace self.old.entries service self.new.entries }
