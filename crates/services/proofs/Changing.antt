@@ -37,6 +37,7 @@ place-set es id at e place own = record {
   only = λ i s here same. grind (arith, holds-set es at i e s here, place.only);
 }
 
+-- what is read of an id once its entry is changed
 read_changed : (es : List (Option Service)) (id at : ℕ) (e : Option Service) → IsPlaceFor es id at → ForSome e (λ s. s.id ≡ id) → read_in (set es at e) id ≡ e
 read_changed es id at None place own =
     read_none (set es at None) id (λ i t here same. grind (arith, holds-set es at i None t here, place.only))
@@ -49,6 +50,7 @@ changed es id at e sound is_id place own =
     services_but es (set es at e) id e sound.lawful is_id (read_changed es id at e place own) (λ q other.
     ap option_flatten (last-set_other (has q) es at e None (lacks (get_or es at None) q (λ s here same. other (sym same ∙ place.own s here))) (lacks e q (λ s is same. other (sym same ∙ own s is)))))
 
+-- an entry whose key is an id holds a service with it
 pub some_held : (e : Option Service) (id : ℕ) → key_in e ≡ Some id → (s : Service) × (e ≡ Some s) × (s.id ≡ id)
 some_held None id key = cc
 some_held (Some s) id key = (s, refl, cc)
@@ -61,13 +63,15 @@ place_known es id at sound within last = record {
   only = λ i s here same. grind (arith, last.0 None, some_held (get_or es at None) id (last.0 None), sound.distinct);
 }
 
+-- the entry that has an id, freed
 pub freed : (es : List (Option Service)) (id at : ℕ) → Sound es → id < ids → at < length es → IsLast key_in (Some id) es at → services_in (set es at None) ≡ set (services_in es) id None
 freed es id at sound is_id within last = changed es id at None sound is_id (place_known es id at sound within last) (λ s is. cc)
 
--- what does not stand in any entry is not held
+-- an id that no entry has
 pub nowhere : (es : List (Option Service)) (id : ℕ) → IsAbsent key_in (Some id) es → Nowhere es id
 nowhere es id absent i s here same = absent i None (held_within es i s here) (ap key_in here ∙ ap Some same)
 
+-- what does not stand in any entry is not held, so that taking it out changes nothing
 pub not_held : (es : List (Option Service)) (id : ℕ) → Lawful es → IsAbsent key_in (Some id) es → services_in es ≡ set (services_in es) id None
 not_held es id lawful absent =
     let none : read_in es id ≡ None = read_none es id (nowhere es id absent) in

@@ -17,10 +17,12 @@ use Rattle.services.proofs.Reading.{has, held_id, read_only, read_none, length-s
 abbrev pub one_if_held : Option Service → ℕ
 one_if_held o = cond (is_some o) 1 0
 
+-- the number of ids held, as one of them changes
 pub held-set : (ss : List (Option Service)) (id : ℕ) (v : Option Service) → id < length ss → held (set ss id v) + one_if_held (get_or ss id None) ≡ held ss + one_if_held v
 unfolding held
 held-set ss id v within = sum_by-set one_if_held ss id v None within
 
+-- one of the two that is none makes no difference
 or_none : (o : Option (Option Service)) → option_or o None ≡ o
 or_none None = refl
 or_none (Some e) = refl
@@ -50,6 +52,7 @@ held_before (Some s) es distinct lawful =
     let more = held-set (services_in es) s.id (Some s) (let long = length-services es in omega arith) in
     ap held now ∙ grind (arith, more, none, get_or-services es s.id rest)
 
+-- of no entries
 none_held : held (services_in []) ≡ 0
 unfolding held services_in last_of
 none_held = refl
@@ -63,6 +66,7 @@ counted (e ∷ es) distinct lawful =
     let more = sum_by-cons one_if_held e es in
     omega arith
 
+-- and the free ones are the rest
 pub counted_sound : (es : List (Option Service)) → Sound es → count_by is_none es + held (services_in es) ≡ capacity
 counted_sound es sound =
     let each = counted es sound.distinct sound.lawful in

@@ -62,6 +62,7 @@ no_room es id sound is_id absent none_free =
 abbrev pub Answers : List (Option Service) → Option ℕ → Option ℕ → Type 0
 Answers es key r = IfSome r (λ i. i < length es) × FindsLast key_in key es r
 
+-- so the two searches answer the place, and none exactly where eight other ids are held
 pub searched : (es : List (Option Service)) (id : ℕ) (known r : Option ℕ) → Sound es → id < ids → Answers es (Some id) known → (known ≡ None → Answers es None r) → ((i : ℕ) → known ≡ Some i → r ≡ Some i) → MatchOption r (IsAbsent key_in (Some id) es) (IsPlaceFor es id) × (IsNone r ↔ (held (set (services_in es) id None) ≡ capacity))
 searched es id (Some i) r sound is_id found free same =
     rw (same i refl) (place_known es id i sound found.0 found.1, (λ none. cc, λ full. absurd (room_known es id i sound is_id found.0 found.1 full)))

@@ -23,6 +23,7 @@ pub lacks : (e : Option Service) (id : ℕ) → ((s : Service) → e ≡ Some s 
 lacks None id other = refl
 lacks (Some s) id other = ne_eqb s.id id (other s refl)
 
+-- the same at an index, read with any default
 lacks_at : (es : List (Option Service)) (id k : ℕ) (d : Option Service) → k < length es → ((s : Service) → Holds es k s → s.id ≢ id) → has id (get_or es k d) ≡ false
 lacks_at es id k d within other = rw (get_or_default es k d None within) (lacks (get_or es k None) id other)
 
@@ -62,6 +63,7 @@ get_or-services es id lawful =
     (λ (past : ids ≤ id). get_or_past (services_in es) id None (let long = length-services es in omega arith) ∙ sym (read_none es id (λ i s here same. let is_id = held_id s (lawful i s here) in omega arith)))
     (cases_lt id ids)
 
+-- the services by what the search for an id finds
 pub services_found : (es : List (Option Service)) (id : ℕ) (at : Option ℕ) → Lawful es → IfSome at (λ i. i < length es) → FindsLast key_in (Some id) es at → get_or (services_in es) id None ≡ option_flatten (option_map (λ i. get_or es i None) at)
 services_found es id at lawful within last =
     get_or-services es id lawful ∙ sym (ap option_flatten (found_record key_in (option_eq nat_eq) (options nat_eq numbers) (Some id) es at None within last))

@@ -16,6 +16,7 @@ use Rattle.services.specs.Services.{nothing_held, held, read_in}
 use Rattle.services.proofs.Counting.{held-set, counted_sound}
 use Rattle.services.proofs.Reading.{has, rule_id, length-services, get_or-services}
 
+-- a service that is found was in the entry that was found
 found_some : (o : Option (Option Service)) (s : Service) → option_flatten o ≡ Some s → o ≡ Some (Some s)
 found_some None s is = cc
 found_some (Some o) s is = ap Some is
@@ -40,6 +41,7 @@ tables_right t =
           record { same_id = there.1; rule = grind (arith, common_steps); lasting = grind (arith, common_steps) };
     }
 
+-- nothing stands at any place of a row of nones, or past it
 none_anywhere : (n id : ℕ) → get_or {A = Option Service} (replicate n None) id None ≡ None
 none_anywhere n id =
     ⊎_elim
@@ -56,6 +58,7 @@ empty_right =
       rightful = λ id s reads. let none = none_anywhere ids id in cc;
     }
 
+-- right services with one id changed, to a rightful value or to none
 right-set : (ss : List (Option Service)) (s : Service) (v : Option Service) → Right ss → s.id < ids → held (set ss s.id v) ≤ capacity → ((t : Service) → v ≡ Some t → Rightful s.id t) → Right (set ss s.id v)
 right-set ss s v right is_id few value =
     record {
@@ -64,6 +67,7 @@ right-set ss s v right is_id few value =
       rightful = λ q t reads. grind (arith, common_steps, value t, right.rightful q t, cases_eq q s.id);
     }
 
+-- a value for which there is room, taken
 taken : (ss : List (Option Service)) (s : Service) → Right ss → keeps_rule s ≡ true → is_deletion s ≡ false → is_full ss s ≡ false → Right (set ss s.id (Some s))
 taken ss s right rule lasts room =
     let is_id = rule_id s rule in
@@ -75,6 +79,7 @@ taken ss s right rule lasts room =
     let own : Rightful s.id s = record { same_id = refl; rule = rule; lasting = eqb-false s.time 0 lasts } in
     right-set ss s (Some s) right is_id (omega (arith, others)) (λ t is. rw (sym (same_Some s t is)) own)
 
+-- an id taken out
 gone : (ss : List (Option Service)) (s : Service) → Right ss → keeps_rule s ≡ true → Right (set ss s.id None)
 gone ss s right rule =
     let is_id = rule_id s rule in
