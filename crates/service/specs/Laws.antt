@@ -1,6 +1,5 @@
 -- What is promised of a service and its bytes, beside what each call does. Assumes nothing.
-use Rattle.std.specs.Prelude.{◌≡◌, ℕ, ◌^◌, ◌<◌, List, length}
-use Rattle.std.specs.List.{AllByRecursion}
+use Rattle.std.specs.Prelude.{◌≡◌, ℕ, ◌^◌, ◌<◌, List, length, All}
 use Rattle.service.specs.declared.value.Service.{Service}
 use Rattle.service.specs.Layout.{byte_count, bytes_of, service_of}
 
@@ -18,4 +17,4 @@ ReadingUndoesWriting = (s : Service) → Fits s → service_of (bytes_of s) ≡ 
 
 -- nine bytes that were read are written back as they were
 abbrev pub WritingUndoesReading : Type 0
-WritingUndoesReading = (bytes : List ℕ) → length bytes ≡ byte_count → AllByRecursion (λ b. b < 2 ^ 8) bytes → bytes_of (service_of bytes) ≡ bytes
+WritingUndoesReading = (bytes : List ℕ) → length bytes ≡ byte_count → All (λ b. b < 2 ^ 8) bytes → bytes_of (service_of bytes) ≡ bytes

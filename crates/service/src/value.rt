@@ -4,18 +4,14 @@ ghost use Rattle.service.specs.Layout.{bytes_of, service_of};
 ghost use Rattle.service.specs.Laws.{ReadingUndoesWriting, WritingUndoesReading};
 ghost use Rattle.service.specs.Rule.{keeps_rule};
 
+use crate::domain::Domain;
+use keyed::Keyed;
+
 // A service has so many bytes on the line.
 pub const SIZE: usize = 9;
 
 // Every id is below this number.
-pub const IDS: usize = 128;
-
-// The domains that a service may belong to.
-const PUBLISH: u8 = 0;
-
-const EVENT: u8 = 1;
-
-const BLOCK_TRANSFER: u8 = 3;
+pub const IDS: u8 = 128;
 
 // The flags of a service that is a source.
 const SOURCE: u8 = 1;
@@ -30,16 +26,29 @@ const TRANSFER_FLAGS: u8 = 3;
 pub struct Service {
     pub id: u8,
     pub flags: u8,
+    // A byte and no `Domain`: a value that breaks the rule, and a deletion, may have any.
     pub domain: u8,
     pub destination: u16,
     // A time of 0 asks for the service to be deleted.
     pub time: u32,
 }
 
-impl Service {
-    // The service that nine bytes from the line stand for.
-    pub fn from_bytes(bytes: &[u8; SIZE]) -> Service
-        ensures value { result ≡ service_of bytes.now }
+impl Keyed for Service {
+    type Key = u8;
+
+    ghost key = { λ s. s.id };
+
+    fn key(&self) -> u8 {
+        self.id
+    }
+}
+
+// The service that nine bytes from the line stand for.
+impl From<[u8; SIZE]> for Service {
+    ghost from_gives = { λ bytes service. service ≡ service_of bytes };
+
+    fn from(bytes: [u8; SIZE]) -> Service
+        ensures value { result ≡ service_of bytes }
         ensures undoes { ReadingUndoesWriting }
     {
         Service {
@@ -50,18 +59,22 @@ impl Service {
             time: u32::from_be_bytes([bytes[5], bytes[6], bytes[7], bytes[8]]),
         }
     }
+}
 
-    // The nine bytes of the service on the line.
-    pub fn to_bytes(self) -> [u8; SIZE]
-        ensures value { result ≡ bytes_of self }
+// The nine bytes of a service on the line.
+impl From<Service> for [u8; SIZE] {
+    ghost from_gives = { λ service bytes. bytes ≡ bytes_of service };
+
+    fn from(service: Service) -> [u8; SIZE]
+        ensures value { result ≡ bytes_of service }
         ensures undoes { WritingUndoesReading }
     {
-        let [high, low] = self.destination.to_be_bytes();
-        let [first, second, third, fourth] = self.time.to_be_bytes();
+        let [high, low] = service.destination.to_be_bytes();
+        let [first, second, third, fourth] = service.time.to_be_bytes();
         [
-            self.id,
-            self.flags,
-            self.domain,
+            service.id,
+            service.flags,
+            service.domain,
             high,
             low,
             first,
@@ -70,22 +83,24 @@ impl Service {
             fourth,
         ]
     }
+}
 
+impl Service {
     // Whether the value may be accepted. A deletion asks only for an id that there is.
     pub fn keeps_rule(self) -> bool
         ensures { result ≡ keeps_rule self }
     {
-        if self.id as usize >= IDS {
+        if self.id >= IDS {
             return false;
         }
         if self.time == 0 {
             return true;
         }
-        match self.domain {
-            PUBLISH => self.flags == SOURCE,
-            EVENT => self.flags == INTERMITTENT_SOURCE,
-            BLOCK_TRANSFER => self.flags <= TRANSFER_FLAGS,
-            _ => false,
+        match Domain::try_from(self.domain) {
+            Ok(Domain::Publish) => self.flags == SOURCE,
+            Ok(Domain::Event) => self.flags == INTERMITTENT_SOURCE,
+            Ok(Domain::BlockTransfer) => self.flags <= TRANSFER_FLAGS,
+            Err(_) => false,
         }
     }
 }

@@ -2,6 +2,7 @@
 use service::value::Service;
 use services::table::{Refusal, Table};
 use std::process::Abort;
+use std::test::Fail;
 
 // A service to publish; a time of 0 deletes it.
 fn publish(id: u8, time: u32) -> Service {
@@ -20,7 +21,7 @@ fn full(rt: &impl Abort) -> Table {
     for id in 100..108 {
         assert_eq!(rt; table.accept(publish(id, 1)), Ok(()));
         assert_eq!(rt; table.get(id), Some(publish(id, 1)));
-        assert!(rt; table.left() == 107 - usize::from(id));
+        assert_eq!(rt; table.left(), 107 - usize::from(id));
     }
     table
 }
@@ -32,10 +33,10 @@ fn filled_refilled_emptied(rt: HostRuntime) {
         assert_eq!(rt; table.accept(publish(9, 1)), Err(Refusal::Full));
         assert_eq!(rt; table.accept(publish(id, 2)), Ok(()));
         assert_eq!(rt; table.get(id), Some(publish(id, 2)));
-        assert!(rt; table.left() == 0);
+        assert_eq!(rt; table.left(), 0);
     }
     table.clear();
-    assert!(rt; table.left() == 8);
+    assert_eq!(rt; table.left(), 8);
     for id in 0..=255 {
         assert_eq!(rt; table.get(id), None);
     }
@@ -50,12 +51,12 @@ fn room_after_a_deletion(rt: HostRuntime) {
             Ok(()),
             "not held, and no fault"
         );
-        assert!(rt; table.left() == 0);
+        assert_eq!(rt; table.left(), 0);
         assert_eq!(rt; table.accept(publish(gone, 0)), Ok(()));
-        assert!(rt; table.left() == 1);
+        assert_eq!(rt; table.left(), 1);
         assert_eq!(rt; table.get(gone), None);
         assert_eq!(rt; table.accept(publish(9, 3)), Ok(()));
-        assert!(rt; table.left() == 0);
+        assert_eq!(rt; table.left(), 0);
         for id in 100..108 {
             assert_eq!(rt; table.get(id).is_some(), id != gone);
         }
@@ -70,5 +71,14 @@ fn ids_at_the_edge(rt: HostRuntime) {
     assert_eq!(rt; table.accept(publish(128, 0)), Err(Refusal::Rule));
     assert_eq!(rt; table.get(127), Some(publish(127, 1)));
     assert_eq!(rt; table.get(128), None);
-    assert!(rt; table.left() == 7);
+    assert_eq!(rt; table.left(), 7);
+}
+
+#[test]
+fn refusals_as_text(rt: HostRuntime) -> Result<(), Fail> {
+    let rule = Refusal::Rule.to_string(rt.alloc())?;
+    assert_eq!(rt; rule.as_str(), "the service breaks the rule");
+    let full = Refusal::Full.to_string(rt.alloc())?;
+    assert_eq!(rt; full.as_str(), "no entry is free");
+    Ok(())
 }

@@ -1,10 +1,12 @@
 // Service values on the line and back, and the rule at each of its edges.
-use service::value::Service;
+use service::domain::{Domain, UnknownDomain};
+use service::value::{SIZE, Service};
+use std::test::Fail;
 
 #[test]
 fn bytes_there_and_back(rt: HostRuntime) {
     let bytes = [0x7f, 0x05, 0x01, 0xf9, 0x81, 0x00, 0x01, 0x02, 0xff];
-    let service = Service::from_bytes(&bytes);
+    let service = Service::from(bytes);
     let expected = Service {
         id: 127,
         flags: 5,
@@ -13,7 +15,7 @@ fn bytes_there_and_back(rt: HostRuntime) {
         time: 0x0001_02ff,
     };
     assert_eq!(rt; service, expected);
-    assert_eq!(rt; service.to_bytes(), bytes);
+    assert_eq!(rt; <[u8; SIZE]>::from(service), bytes);
 }
 
 // Id, flags, domain, time, and whether they keep the rule.
@@ -57,4 +59,15 @@ fn rule_at_its_edges(rt: HostRuntime) {
         };
         assert_eq!(rt; service.keeps_rule(), kept);
     }
+}
+
+#[test]
+fn domains_by_number(rt: HostRuntime) -> Result<(), Fail> {
+    assert_eq!(rt; Domain::try_from(0), Ok(Domain::Publish));
+    assert_eq!(rt; Domain::try_from(1), Ok(Domain::Event));
+    assert_eq!(rt; Domain::try_from(2), Err(UnknownDomain(2)));
+    assert_eq!(rt; Domain::try_from(3), Ok(Domain::BlockTransfer));
+    let text = UnknownDomain(2).to_string(rt.alloc())?;
+    assert_eq!(rt; text.as_str(), "no domain has the number 2");
+    Ok(())
 }

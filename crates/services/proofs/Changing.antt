@@ -1,120 +1,78 @@
--- What one changed entry does to the services, and that the entries stay sound. Assumes nothing.
-use Rattle.std.proofs.Common.{◌≡◌, ℕ, ◌<◌, true, ◌⊎◌, List, map, length, get_or, set, Some, None, sym, refl, ap, ◌∙◌, inl, inr, ⊎_elim, arith}
-use Rattle.std.specs.List.{slice_get}
-use Rattle.std.proofs.lemmas.List.{length-set}
+-- What one changed entry does to the services. Assumes nothing.
+use Rattle.std.proofs.Common.{◌≡◌, ◌≢◌, ℕ, ◌<◌, List, length, get_or, set, Some, None, Option, sym, refl, ap, ◌∙◌, ◌⊎◌, inl, inr, ⊎_elim, arith}
+use Rattle.std.specs.Option.{option_flatten, ForSome}
 use Rattle.std.proofs.lemmas.Bool.{cases_eq}
-use Rattle.keyed.specs.Keys.{Has, Last, Search}
-use Rattle.keyed.proofs.Changed.{nth_set_same, nth_set_other, has_elsewhere, has_there}
-use Rattle.keyed.proofs.Latest.{last_none, last-set_other, last-set_same}
-use Rattle.keyed.proofs.Rows.{has_within, has_key}
-use Rattle.services.specs.declared.entry.Entry.{Entry}
-use Rattle.services.specs.declared.entry.Entry.TheVariants.{Free, Held}
+use Rattle.std.proofs.lemmas.Grind.{get_or-set_at}
+use Rattle.std.proofs.lemmas.List.{length-set, get_or-set_same, get_or-set_other, set-get_or}
+use Rattle.std.proofs.lemmas.List.FromFn.{fill_by_all}
+use Rattle.keyed.specs.Keys.{IsLast, IsAbsent}
+use Rattle.keyed.proofs.Latest.{last-set_other}
 use Rattle.service.specs.declared.value.Service.{Service}
-use Rattle.services.specs.Entries.{key_in, may_be_held, SameIdTwice, Distinct, Lawful, Sound}
 use Rattle.service.specs.Rule.{ids}
-use Rattle.services.specs.Services.{service_found, services_in}
-use Rattle.services.proofs.Reading.{services_but}
+use Rattle.services.specs.Entries.{key_in, Holds, Lawful, Sound, IsPlaceFor}
+use Rattle.services.specs.Services.{read_in, services_in}
+use Rattle.services.proofs.Reading.{has, held_within, read_only, read_none, lacks, Nowhere, length-services, get_or-services}
 
--- ---- sound entries stay sound
+-- entries that say the same of every id but one
+pub services_but : (es fs : List (Option Service)) (id : ℕ) (v : Option Service) → Lawful es → id < ids → read_in fs id ≡ v → ((q : ℕ) → q ≢ id → read_in fs q ≡ read_in es q) → services_in fs ≡ set (services_in es) id v
+unfolding services_in
+services_but es fs id v lawful is_id here elsewhere =
+    let long = length-services es in
+    sym (fill_by_all (read_in fs) (set (services_in es) id v) ids None (length-set (services_in es) id v ∙ long) (λ q q_id.
+    grind (arith, cases_eq q id, get_or-set_at (services_in es) id q v None, get_or-set_other (services_in es) id q v None, get_or-services es q lawful, elsewhere q, here)))
 
--- the id of the new entry, if it has one, stands in no other entry
-abbrev OnlyThere : List Entry → ℕ → Entry → Type 0
-OnlyThere es at e = key_in e < ids → (j : ℕ) → Has (map key_in es) (key_in e) j → j ≡ at
-
-one_there : (es : List Entry) (at : ℕ) (e : Entry) (id i j : ℕ) → at < length es → OnlyThere es at e → id < ids → i ≡ at → (j ≡ at → ⊥) → Has (map key_in (set es at e)) id i → Has (map key_in (set es at e)) id j → i ≡ j
-one_there es at e id i j within only is_id there other first second =
-    let key : key_in e ≡ id = has_there key_in es at e id within (sym (ap (λ n. slice_get (map key_in (set es at e)) n) there) ∙ first) in
-    let before : Has (map key_in es) (key_in e) j = has_elsewhere key_in es at e id j other second ∙ ap Some (sym key) in
-    absurd (other (only (omega arith) j before))
-
-distinct_by : (es : List Entry) (at : ℕ) (e : Entry) → Distinct es → at < length es → OnlyThere es at e → (two : SameIdTwice (set es at e)) → (two.i ≡ at) ⊎ (two.i ≡ at → ⊥) → (two.j ≡ at) ⊎ (two.j ≡ at → ⊥) → two.i ≡ two.j
-distinct_by es at e distinct within only two (inl i_there) (inl j_there) = i_there ∙ sym j_there
-distinct_by es at e distinct within only two (inl i_there) (inr j_other) =
-    one_there es at e two.shared two.i two.j within only two.is_id i_there j_other two.first two.second
-distinct_by es at e distinct within only two (inr i_other) (inl j_there) =
-    sym (one_there es at e two.shared two.j two.i within only two.is_id j_there i_other two.second two.first)
-distinct_by es at e distinct within only two (inr i_other) (inr j_other) =
-    distinct (record {
-      shared = two.shared;
-      is_id = two.is_id;
-      i = two.i;
-      j = two.j;
-      first = has_elsewhere key_in es at e two.shared two.i i_other two.first;
-      second = has_elsewhere key_in es at e two.shared two.j j_other two.second;
-    })
-
-distinct-set : (es : List Entry) (at : ℕ) (e : Entry) → Distinct es → at < length es → OnlyThere es at e → Distinct (set es at e)
-distinct-set es at e distinct within only = λ two.
-    distinct_by es at e distinct within only two (cases_eq two.i at) (cases_eq two.j at)
-
-lawful-set : (es : List Entry) (at : ℕ) (e : Entry) → Lawful es → at < length es → ((s : Service) → e ≡ Held s → may_be_held s ≡ true) → Lawful (set es at e)
-lawful-set es at e lawful within may = λ one.
+-- what the entries hold once one is changed
+pub holds-set : (es : List (Option Service)) (at i : ℕ) (e : Option Service) (t : Service) → Holds (set es at e) i t → ((i ≡ at) × (e ≡ Some t)) ⊎ ((i ≢ at) × Holds es i t)
+holds-set es at i e t here =
     ⊎_elim
-    (λ (there : one.index ≡ at).
-    let new : Some e ≡ Some (Held one.value) = sym (nth_set_same es at e within) ∙ sym (ap (λ n. slice_get (set es at e) n) there) ∙ one.holds in
-    may one.value (let n = new in cc))
-    (λ (other : one.index ≡ at → ⊥).
-    lawful (record { index = one.index; value = one.value; holds = sym (nth_set_other es at one.index e other) ∙ one.holds }))
-    (cases_eq one.index at)
+    (λ (same : i ≡ at). inl (same, sym (rw same (get_or-set_same es at e None (let inside = held_within (set es at e) i t here in omega (arith, length-set es at e)))) ∙ here))
+    (λ (other : i ≢ at). inr (other, sym (get_or-set_other es at i e None other) ∙ here))
+    (cases_eq i at)
 
-sound-set : (es : List Entry) (at : ℕ) (e : Entry) → Sound es → at < length es → OnlyThere es at e → ((s : Service) → e ≡ Held s → may_be_held s ≡ true) → Sound (set es at e)
-sound-set es at e sound within only may =
-    (length-set es at e ∙ sound.0, distinct-set es at e sound.1 within only, lawful-set es at e sound.2 within may)
+-- the place of an id stays its place, whether the entry is free or holds the id
+place-set : (es : List (Option Service)) (id at : ℕ) (e : Option Service) → IsPlaceFor es id at → ForSome e (λ s. s.id ≡ id) → IsPlaceFor (set es at e) id at
+place-set es id at e place own = record {
+  within = let inside = place.within in omega (arith, length-set es at e);
+  own = λ s here. own s (sym (get_or-set_same es at e None place.within) ∙ here);
+  only = λ i s here same. grind (arith, holds-set es at i e s here, place.only);
+}
 
--- the entry with an id is the only one
-pub alone : (es : List Entry) (id at : ℕ) → Distinct es → id < ids → Has (map key_in es) id at → (j : ℕ) → Has (map key_in es) id j → j ≡ at
-alone es id at distinct is_id has j other = distinct (record { shared = id; is_id = is_id; i = j; j = at; first = other; second = has })
+-- what is read of an id once its entry is changed
+read_changed : (es : List (Option Service)) (id at : ℕ) (e : Option Service) → IsPlaceFor es id at → ForSome e (λ s. s.id ≡ id) → read_in (set es at e) id ≡ e
+read_changed es id at None place own =
+    read_none (set es at None) id (λ i t here same. grind (arith, holds-set es at i None t here, place.only))
+read_changed es id at (Some s) place own =
+    read_only (set es at (Some s)) id at s (place-set es id at (Some s) place own) (get_or-set_same es at (Some s) None place.within)
 
-may_be : (s t : Service) → may_be_held s ≡ true → Held s ≡ Held t → may_be_held t ≡ true
-may_be s t may same = let e : s ≡ t = cc in sym (ap may_be_held e) ∙ may
+-- the entry of an id changed, to a service with the id or to a free one
+pub changed : (es : List (Option Service)) (id at : ℕ) (e : Option Service) → Sound es → id < ids → IsPlaceFor es id at → ForSome e (λ s. s.id ≡ id) → services_in (set es at e) ≡ set (services_in es) id e
+changed es id at e sound is_id place own =
+    services_but es (set es at e) id e sound.lawful is_id (read_changed es id at e place own) (λ q other.
+    ap option_flatten (last-set_other (has q) es at e None (lacks (get_or es at None) q (λ s here same. other (sym same ∙ place.own s here))) (lacks e q (λ s is same. other (sym same ∙ own s is)))))
 
--- a value in the entry that has its id
-pub sound_known : (es : List Entry) (at : ℕ) (s : Service) → Sound es → may_be_held s ≡ true → Last (map key_in es) s.id at → Sound (set es at (Held s))
-sound_known es at s sound may last =
-    sound-set es at (Held s) sound (has_within key_in es s.id at last.has) (λ is_id j has. alone es s.id at sound.1 is_id last.has j has) (λ t same. may_be s t may same)
+-- an entry whose key is an id holds a service with it
+pub some_held : (e : Option Service) (id : ℕ) → key_in e ≡ Some id → (s : Service) × (e ≡ Some s) × (s.id ≡ id)
+some_held None id key = cc
+some_held (Some s) id key = (s, refl, cc)
 
--- a value in a free entry, where no entry has its id
-pub sound_new : (es : List Entry) (at : ℕ) (s : Service) → Sound es → may_be_held s ≡ true → Search (map key_in es) s.id None → Last (map key_in es) ids at → Sound (set es at (Held s))
-sound_new es at s sound may none last =
-    sound-set es at (Held s) sound (has_within key_in es ids at last.has) (λ is_id j has. absurd (none j has)) (λ t same. may_be s t may same)
+-- the entry that has an id is its place
+pub place_known : (es : List (Option Service)) (id at : ℕ) → Sound es → at < length es → IsLast key_in (Some id) es at → IsPlaceFor es id at
+place_known es id at sound within last = record {
+  within = within;
+  own = λ s here. grind (arith, last.0 None);
+  only = λ i s here same. grind (arith, last.0 None, some_held (get_or es at None) id (last.0 None), sound.distinct);
+}
 
-never_held : (s : Service) → Free ≡ Held s → may_be_held s ≡ true
-never_held s e = let z : ◌≡◌ {A = ℕ} 0 1 = cc in absurd (omega arith)
+-- the entry that has an id, freed
+pub freed : (es : List (Option Service)) (id at : ℕ) → Sound es → id < ids → at < length es → IsLast key_in (Some id) es at → services_in (set es at None) ≡ set (services_in es) id None
+freed es id at sound is_id within last = changed es id at None sound is_id (place_known es id at sound within last) (λ s is. cc)
 
--- a free entry, wherever it is
-pub sound_freed : (es : List Entry) (at : ℕ) → Sound es → at < length es → Sound (set es at Free)
-sound_freed es at sound within =
-    sound-set es at Free sound within (λ is_id. absurd (omega arith)) never_held
+-- an id that no entry has
+pub nowhere : (es : List (Option Service)) (id : ℕ) → IsAbsent key_in (Some id) es → Nowhere es id
+nowhere es id absent i s here same = absent i None (held_within es i s here) (ap key_in here ∙ ap Some same)
 
--- ---- what the services are then
-
--- a value in an entry that has its id or none, with no later entry that has its id
-placed : (es : List Entry) (at : ℕ) (s : Service) → s.id < ids → at < length es → ((q : ℕ) → q < ids → (q ≡ s.id → ⊥) → key_in (get_or es at Free) ≡ q → ⊥) → ((j : ℕ) → at < j → Has (map key_in es) s.id j → ⊥) → services_in (set es at (Held s)) ≡ set (services_in es) s.id (Some s)
-placed es at s is_id within was later =
-    services_but es (set es at (Held s)) s.id (Some s) is_id
-    (ap service_found (last-set_same key_in s.id es at (Held s) within refl later))
-    (λ q q_id other. last-set_other key_in q es at (Held s) Free (was q q_id other) (λ same. other (sym same)))
-
-pub placed_known : (es : List Entry) (at : ℕ) (s : Service) → s.id < ids → Last (map key_in es) s.id at → services_in (set es at (Held s)) ≡ set (services_in es) s.id (Some s)
-placed_known es at s is_id last =
-    let key = has_key key_in es s.id at Free last.has in
-    placed es at s is_id (has_within key_in es s.id at last.has) (λ q q_id other same. other (sym same ∙ key)) last.later
-
-pub placed_new : (es : List Entry) (at : ℕ) (s : Service) → s.id < ids → Search (map key_in es) s.id None → Last (map key_in es) ids at → services_in (set es at (Held s)) ≡ set (services_in es) s.id (Some s)
-placed_new es at s is_id none last =
-    let key = has_key key_in es ids at Free last.has in
-    placed es at s is_id (has_within key_in es ids at last.has) (λ q q_id other same. omega arith) (λ j above has. none j has)
-
--- once its entry is free, no entry has the id
-gone : (es : List Entry) (id at j : ℕ) → Distinct es → id < ids → Has (map key_in es) id at → (j ≡ at) ⊎ (j ≡ at → ⊥) → Has (map key_in (set es at Free)) id j → ⊥
-gone es id at j distinct is_id was (inl there) has =
-    let free : key_in Free ≡ id = has_there key_in es at Free id (has_within key_in es id at was) (sym (ap (λ n. slice_get (map key_in (set es at Free)) n) there) ∙ has) in
-    omega arith
-gone es id at j distinct is_id was (inr other) has = other (alone es id at distinct is_id was j (has_elsewhere key_in es at Free id j other has))
-
-pub freed : (es : List Entry) (id at : ℕ) → Distinct es → id < ids → Last (map key_in es) id at → services_in (set es at Free) ≡ set (services_in es) id None
-freed es id at distinct is_id last =
-    let key = has_key key_in es id at Free last.has in
-    services_but es (set es at Free) id None is_id
-    (ap service_found (last_none key_in id (set es at Free) (λ j has. gone es id at j distinct is_id last.has (cases_eq j at) has)))
-    (λ q q_id other. last-set_other key_in q es at Free Free (λ same. other (sym same ∙ key)) (λ same. omega arith))
+-- what does not stand in any entry is not held, so that taking it out changes nothing
+pub not_held : (es : List (Option Service)) (id : ℕ) → Lawful es → IsAbsent key_in (Some id) es → services_in es ≡ set (services_in es) id None
+not_held es id lawful absent =
+    let none : read_in es id ≡ None = read_none es id (nowhere es id absent) in
+    sym (ap (λ v. set (services_in es) id v) (sym (get_or-services es id lawful ∙ none)) ∙ set-get_or (services_in es) id None)

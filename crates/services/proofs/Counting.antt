@@ -1,102 +1,75 @@
 -- The free entries and the ids held are together as many as the entries. Assumes nothing.
-use Rattle.std.proofs.Common.{◌≡◌, ℕ, suc, ◌+◌, ◌<◌, false, cond, List, [], ◌∷◌, map, length, get_or, set, is_some, Some, None, count_by, Option, sym, refl, ap, ◌∙◌, arith}
-use Rattle.std.specs.Option.{option_or}
-use Rattle.std.specs.Bool.{then_some}
-use Rattle.std.proofs.lemmas.List.Sums.{sum_by-cons, sum_by-set}
-use Rattle.std.proofs.lemmas.Bool.{eq-eqb, ne_eqb}
-use Rattle.keyed.specs.Keys.{Search, last_of}
-use Rattle.keyed.proofs.Latest.{last_none}
-use Rattle.services.specs.declared.entry.Entry.{Entry}
-use Rattle.services.specs.declared.entry.Entry.TheVariants.{Free, Held}
+use Rattle.std.proofs.Common.{◌≡◌, ℕ, suc, ◌+◌, ◌<◌, false, cond, List, [], ◌∷◌, length, get_or, set, map, is_some, is_none, Some, None, count_by, Option, sym, refl, ap, ◌∙◌, arith}
+use Rattle.std.specs.List.{range_with_len}
+use Rattle.std.specs.Option.{option_flatten, option_or}
+use Rattle.std.proofs.lemmas.List.Sums.{sum_by-cons, sum_by-set, length-filter}
+use Rattle.std.proofs.lemmas.Bool.{ne_eqb}
+use Rattle.std.proofs.lemmas.List.Filters.{length-filter_both}
+use Rattle.keyed.specs.Keys.{last_of}
 use Rattle.service.specs.declared.value.Service.{Service}
-use Rattle.services.specs.Entries.{key_in, is_free, Distinct, Lawful}
 use Rattle.service.specs.Rule.{ids}
-use Rattle.services.specs.Services.{service_found, services_in, held}
-use Rattle.services.proofs.Reading.{held_id, lawful_rest, length-services, read_at, services_same, services_but}
+use Rattle.services.specs.Entries.{capacity, Distinct, Lawful, Sound, IsPlaceFor}
+use Rattle.services.specs.Services.{read_in, services_in, held}
+use Rattle.services.proofs.Changing.{services_but}
+use Rattle.services.proofs.Reading.{has, held_id, read_only, read_none, length-services, get_or-services}
 
--- ---- the number of ids held, as one of them changes
+-- what an id counts for: one where a service is held
+abbrev pub one_if_held : Option Service → ℕ
+one_if_held o = cond (is_some o) 1 0
 
-pub one_more_held : (ss : List (Option Service)) (id : ℕ) (s : Service) → id < length ss → get_or ss id None ≡ None → held (set ss id (Some s)) ≡ held ss + 1
+-- the number of ids held, as one of them changes
+pub held-set : (ss : List (Option Service)) (id : ℕ) (v : Option Service) → id < length ss → held (set ss id v) + one_if_held (get_or ss id None) ≡ held ss + one_if_held v
 unfolding held
-one_more_held ss id s within none =
-    let counts : Option Service → ℕ = λ o. cond (is_some o) 1 0 in
-    let sum = sum_by-set counts ss id (Some s) None within in
-    let was : counts (get_or ss id None) ≡ 0 = ap counts none in
-    omega arith
+held-set ss id v within = sum_by-set one_if_held ss id v None within
 
-pub one_less_held : (ss : List (Option Service)) (id : ℕ) (s : Service) → id < length ss → get_or ss id None ≡ Some s → held (set ss id None) + 1 ≡ held ss
-unfolding held
-one_less_held ss id s within some =
-    let counts : Option Service → ℕ = λ o. cond (is_some o) 1 0 in
-    let sum = sum_by-set counts ss id None None within in
-    let was : counts (get_or ss id None) ≡ 1 = ap counts some in
-    omega arith
+-- one of the two that is none makes no difference
+or_none : (o : Option (Option Service)) → option_or o None ≡ o
+or_none None = refl
+or_none (Some e) = refl
 
+-- an entry without the id before the others makes no difference
+read_before : (e : Option Service) (es : List (Option Service)) (q : ℕ) → has q e ≡ false → read_in (e ∷ es) q ≡ read_in es q
+unfolding last_of
+read_before e es q other = rw other (ap option_flatten (or_none (last_of (has q) es)))
+
+free_before : (es : List (Option Service)) → services_in (None ∷ es) ≡ services_in es
+unfolding services_in
+free_before es = λ i. map (λ q. read_before None es q refl i) (range_with_len 0 ids)
+
+-- an entry more before the others holds one id more, or is free
+held_before : (e : Option Service) (es : List (Option Service)) → Distinct (e ∷ es) → Lawful (e ∷ es) → held (services_in (e ∷ es)) ≡ one_if_held e + held (services_in es)
+held_before None es distinct lawful = let same = ap held (free_before es) in omega arith
+held_before (Some s) es distinct lawful =
+    let is_id = held_id s (lawful 0 s refl) in
+    let rest : Lawful es = λ i t here. lawful (suc i) t here in
+    let place : IsPlaceFor (Some s ∷ es) s.id 0 = record {
+      within = omega arith;
+      own = λ t here. grind arith;
+      only = λ i t here same. distinct i 0 t s here refl same;
+    } in
+    let now = services_but es (Some s ∷ es) s.id (Some s) rest is_id (read_only (Some s ∷ es) s.id 0 s place refl) (λ q other. read_before (Some s) es q (ne_eqb s.id q (λ same. other (sym same)))) in
+    let none = read_none es s.id (λ i t here same. let next = distinct (suc i) 0 t s here refl same in omega arith) in
+    let more = held-set (services_in es) s.id (Some s) (let long = length-services es in omega arith) in
+    ap held now ∙ grind (arith, more, none, get_or-services es s.id rest)
+
+-- of no entries
 none_held : held (services_in []) ≡ 0
 unfolding held services_in last_of
 none_held = refl
 
--- ---- one entry more before the others
-
-distinct_rest : (e : Entry) (es : List Entry) → Distinct (e ∷ es) → Distinct es
-distinct_rest e es distinct = λ two.
-    let same = distinct (record { shared = two.shared; is_id = two.is_id; i = suc two.i; j = suc two.j; first = two.first; second = two.second }) in
+-- as many ids are held as entries hold a service
+counted : (es : List (Option Service)) → Distinct es → Lawful es → held (services_in es) ≡ count_by is_some es
+counted [] distinct lawful = none_held
+counted (e ∷ es) distinct lawful =
+    let rest = counted es (λ i j s t a b same. let next = distinct (suc i) (suc j) s t a b same in omega arith) (λ i s here. lawful (suc i) s here) in
+    let this = held_before e es distinct lawful in
+    let more = sum_by-cons one_if_held e es in
     omega arith
 
-or_none : (o : Option Entry) → option_or o None ≡ o
-or_none None = refl
-or_none (Some e) = refl
-
--- an entry without the key before the others makes no difference
-without_key : (e : Entry) (es : List Entry) (q : ℕ) → (key_in e ≡ q → ⊥) → last_of key_in q (e ∷ es) ≡ last_of key_in q es
-unfolding last_of
-without_key e es q other =
-    ap (λ t. option_or (last_of key_in q es) (then_some t e)) (ne_eqb (key_in e) q other) ∙ or_none (last_of key_in q es)
-
-free_before : (es : List Entry) → services_in (Free ∷ es) ≡ services_in es
-free_before es =
-    services_same es (Free ∷ es) (λ q q_id. ap service_found (without_key Free es q (λ same. omega arith)))
-
-only_first : (s : Service) (es : List Entry) → Distinct (Held s ∷ es) → s.id < ids → Search (map key_in es) s.id None
-only_first s es distinct is_id = λ j has.
-    let same : 0 ≡ suc j = distinct (record { shared = s.id; is_id = is_id; i = 0; j = suc j; first = refl; second = has }) in
-    omega arith
-
-first_found : (s : Service) (es : List Entry) → last_of key_in s.id es ≡ None → last_of key_in s.id (Held s ∷ es) ≡ Some (Held s)
-unfolding last_of
-first_found s es none = λ i. option_or (none i) (then_some (eq-eqb s.id s.id refl i) (Held s))
-
-held_before : (s : Service) (es : List Entry) → Distinct (Held s ∷ es) → s.id < ids → held (services_in (Held s ∷ es)) ≡ held (services_in es) + 1
-held_before s es distinct is_id =
-    let none = last_none key_in s.id es (only_first s es distinct is_id) in
-    let then = services_but es (Held s ∷ es) s.id (Some s) is_id (ap service_found (first_found s es none)) (λ q q_id other. without_key (Held s) es q (λ same. other (sym same))) in
-    let long = length-services es in
-    ap held then ∙ one_more_held (services_in es) s.id s (omega arith) (read_at es s.id is_id ∙ ap service_found none)
-
-pub counted : (es : List Entry) → Distinct es → Lawful es → count_by is_free es + held (services_in es) ≡ length es
-counted [] distinct lawful = let none = none_held in omega arith
-counted (Free ∷ es) distinct lawful =
-    let rest = counted es (distinct_rest Free es distinct) (lawful_rest Free es lawful) in
-    let free = sum_by-cons (λ e. cond (is_free e) 1 0) Free es in
-    let same = ap held (free_before es) in
-    omega arith
-counted (Held s ∷ es) distinct lawful =
-    let rest = counted es (distinct_rest (Held s) es distinct) (lawful_rest (Held s) es lawful) in
-    let free = sum_by-cons (λ e. cond (is_free e) 1 0) (Held s) es in
-    let more = held_before s es distinct (held_id s (lawful (record { index = 0; value = s; holds = refl }))) in
-    omega arith
-
--- ---- whether a free entry is found
-
-free_key : (e : Entry) → (key_in e ≡ ids → ⊥) → is_free e ≡ false
-free_key Free other = absurd (other refl)
-free_key (Held s) other = refl
-
--- where no entry has the key of a free one, none is free
-pub none_free : (es : List Entry) → Search (map key_in es) ids None → count_by is_free es ≡ 0
-none_free [] none = refl
-none_free (e ∷ es) none =
-    let rest = none_free es (λ j has. none (suc j) has) in
-    let one = sum_by-cons (λ x. cond (is_free x) 1 0) e es in
-    let this : cond {A = ℕ} (is_free e) 1 0 ≡ 0 = ap (λ t. cond {A = ℕ} t 1 0) (free_key e (λ same. none 0 (ap Some same))) in
-    omega arith
+-- and the free ones are the rest
+pub counted_sound : (es : List (Option Service)) → Sound es → count_by is_none es + held (services_in es) ≡ capacity
+counted_sound es sound =
+    let each = counted es sound.distinct sound.lawful in
+    let all = length-filter_both is_some is_none (λ e. refl) es in
+    let whole = sound.all in
+    omega (arith, length-filter is_some es, length-filter is_none es)

@@ -2,7 +2,5 @@
 pub mod Changing
 pub mod Counting
 pub mod Placing
-pub mod Promises
 pub mod Reading
 pub mod Rights
-pub mod Staying

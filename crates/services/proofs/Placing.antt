@@ -1,67 +1,72 @@
--- Whether there is room for a value, by what the two searches for an entry find. Assumes nothing.
-use Rattle.std.proofs.Common.{◌≡◌, ℕ, ◌+◌, ◌<◌, true, false, cond, List, map, get_or, set, Some, None, count_by, refl, ap, ◌∙◌, arith}
-use Rattle.std.proofs.lemmas.Option.{slice_get-get_or}
-use Rattle.std.proofs.lemmas.List.Sums.{get_or-le-sum_by}
-use Rattle.std.proofs.lemmas.Bool.{eq-eqb, ne_eqb}
-use Rattle.keyed.specs.Keys.{Last, Search}
-use Rattle.keyed.proofs.Latest.{last_none, last_found}
-use Rattle.keyed.proofs.Rows.{has_within, has_key}
-use Rattle.services.specs.declared.entry.Entry.{Entry}
-use Rattle.services.specs.declared.entry.Entry.TheVariants.{Free, Held}
+-- The place for a value, and whether there is room for it, by what the two searches for an entry find. Assumes nothing.
+use Rattle.std.proofs.Common.{◌≡◌, ◌≢◌, ℕ, ◌+◌, ◌<◌, true, List, length, get_or, set, is_none, Some, None, count_by, Option, cond, refl, ap, ◌∙◌, arith}
+use Rattle.std.specs.Option.{IfSome, IsNone, MatchOption}
+use Rattle.std.specs.Prelude.{◌↔◌}
+use Rattle.std.proofs.lemmas.List.{length-set}
+use Rattle.std.proofs.lemmas.List.Sums.{get_or-le-sum_by, sum_by-le}
+use Rattle.keyed.specs.Keys.{IsLast, IsAbsent, FindsLast}
 use Rattle.service.specs.declared.value.Service.{Service}
-use Rattle.services.specs.Accepting.{is_full}
-use Rattle.services.specs.Entries.{capacity, key_in, service_in, is_free, may_be_held, Sound}
 use Rattle.service.specs.Rule.{ids}
-use Rattle.services.specs.Services.{service_found, read_in, services_in, held}
-use Rattle.services.proofs.Counting.{one_less_held, counted, none_free}
-use Rattle.services.proofs.Reading.{held_id, length-services, read_at, none_taken}
+use Rattle.services.specs.Entries.{capacity, key_in, may_be_held, Sound, IsPlaceFor}
+use Rattle.services.specs.Services.{read_in, services_in, held}
+use Rattle.services.proofs.Changing.{holds-set, nowhere, some_held, place_known}
+use Rattle.services.proofs.Counting.{one_if_held, held-set, counted_sound}
+use Rattle.services.proofs.Reading.{read_only, read_none, get_or-services, length-services}
 
--- what is read of an id that the search found, and of one that it did not find
-pub read_found : (es : List Entry) (id at : ℕ) → Last (map key_in es) id at → read_in es id ≡ service_in (get_or es at Free)
-read_found es id at last = ap service_found (last_found key_in id es at Free last)
+-- a free entry is the place for an id that no entry has
+pub place_free : (es : List (Option Service)) (id at : ℕ) → Sound es → at < length es → IsAbsent key_in (Some id) es → IsLast key_in None es at → IsPlaceFor es id at
+place_free es id at sound within absent free = record {
+  within = within;
+  own = λ s here. grind (arith, free.0 None);
+  only = λ i s here same. absurd (nowhere es id absent i s here same);
+}
 
-pub read_none : (es : List Entry) (id : ℕ) → Search (map key_in es) id None → read_in es id ≡ None
-read_none es id none = ap service_found (last_none key_in id es none)
+-- a value that may be held, put in its place
+pub sound_placed : (es : List (Option Service)) (at : ℕ) (s : Service) → Sound es → may_be_held s ≡ true → IsPlaceFor es s.id at → Sound (set es at (Some s))
+sound_placed es at s sound may place = record {
+  all = length-set es at (Some s) ∙ sound.all;
+  distinct = λ i j t u a b same. grind (arith, holds-set es at i (Some s) t a, holds-set es at j (Some s) u b, place.only, sound.distinct);
+  lawful = λ i t here. grind (arith, holds-set es at i (Some s) t here, sound.lawful);
+}
 
-some_held : (e : Entry) → (key_in e ≡ ids → ⊥) → (t : Service) × (service_in e ≡ Some t)
-some_held Free other = absurd (other refl)
-some_held (Held t) other = (t, refl)
+-- ---- whether there is room
 
-some_free : (e : Entry) → key_in e ≡ ids → ((t : Service) → e ≡ Held t → may_be_held t ≡ true) → is_free e ≡ true
-some_free Free key may = refl
-some_free (Held t) key may = let below = held_id t (may t refl) in absurd (omega arith)
-
-pub counted_sound : (es : List Entry) → Sound es → count_by is_free es + held (services_in es) ≡ capacity
-counted_sound es sound = counted es sound.1 sound.2 ∙ sound.0
-
--- an id that is held is one of at most eight, so fewer than eight others are
-pub room_known : (es : List Entry) (at : ℕ) (s : Service) → Sound es → s.id < ids → Last (map key_in es) s.id at → is_full (services_in es) s ≡ false
-room_known es at s sound is_id last =
-    let key = has_key key_in es s.id at Free last.has in
-    let old = some_held (get_or es at Free) (λ same. omega arith) in
-    let long = length-services es in
-    let less = one_less_held (services_in es) s.id old.0 (omega arith) (read_at es s.id is_id ∙ read_found es s.id at last ∙ old.1) in
+-- the free entries and the other ids held are as many as the entries, less one if the id is held
+room : (es : List (Option Service)) (id : ℕ) → Sound es → id < ids → count_by is_none es + held (set (services_in es) id None) + one_if_held (read_in es id) ≡ capacity
+room es id sound is_id =
     let all = counted_sound es sound in
-    ne_eqb (held (set (services_in es) s.id None)) capacity (λ full. omega arith)
+    let less = held-set (services_in es) id None (let long = length-services es in omega arith) in
+    let here = ap one_if_held (get_or-services es id sound.lawful) in
+    omega arith
 
-others : (es : List Entry) (s : Service) → s.id < ids → Search (map key_in es) s.id None → held (set (services_in es) s.id None) ≡ held (services_in es)
-others es s is_id none = ap held (none_taken es s.id is_id (read_none es s.id none))
+-- the id held: at most seven others are
+room_known : (es : List (Option Service)) (id at : ℕ) → Sound es → id < ids → at < length es → IsLast key_in (Some id) es at → held (set (services_in es) id None) ≢ capacity
+room_known es id at sound is_id within last full =
+    let entry = some_held (get_or es at None) id (last.0 None) in
+    grind (arith, room es id sound is_id, read_only es id at entry.0 (place_known es id at sound within last) entry.1)
 
-pub room_new : (es : List Entry) (at : ℕ) (s : Service) → Sound es → s.id < ids → Search (map key_in es) s.id None → Last (map key_in es) ids at → is_full (services_in es) s ≡ false
-room_new es at s sound is_id none last =
-    let key = has_key key_in es ids at Free last.has in
-    let within = has_within key_in es ids at last.has in
-    let here = slice_get-get_or es at Free within in
-    let free = some_free (get_or es at Free) key (λ t is. sound.2 (record { index = at; value = t; holds = here ∙ ap Some is })) in
-    let one = get_or-le-sum_by (λ e. cond (is_free e) 1 0) es at Free within in
-    let counts : cond {A = ℕ} (is_free (get_or es at Free)) 1 0 ≡ 1 = ap (λ t. cond {A = ℕ} t 1 0) free in
-    let all = counted_sound es sound in
-    let same = others es s is_id none in
-    ne_eqb (held (set (services_in es) s.id None)) capacity (λ full. omega arith)
+-- an entry free: at most seven ids are held
+room_free : (es : List (Option Service)) (id at : ℕ) → Sound es → id < ids → at < length es → IsLast key_in None es at → held (set (services_in es) id None) ≢ capacity
+room_free es id at sound is_id within free full =
+    grind (arith, room es id sound is_id, free.0 None, get_or-le-sum_by (λ e. cond (is_none e) 1 0) es at None within)
 
-pub no_room : (es : List Entry) (s : Service) → Sound es → s.id < ids → Search (map key_in es) s.id None → Search (map key_in es) ids None → is_full (services_in es) s ≡ true
-no_room es s sound is_id none none_is_free =
-    let free = none_free es none_is_free in
-    let all = counted_sound es sound in
-    let same = others es s is_id none in
-    eq-eqb (held (set (services_in es) s.id None)) capacity (omega arith)
+-- the id in no entry, and none free: eight others are held
+no_room : (es : List (Option Service)) (id : ℕ) → Sound es → id < ids → IsAbsent key_in (Some id) es → IsAbsent key_in None es → held (set (services_in es) id None) ≡ capacity
+no_room es id sound is_id absent none_free =
+    let none_counts = sum_by-le (λ e. cond (is_none e) 1 0) 0 es (λ k d within. grind (arith, none_free k d within)) in
+    grind (arith, room es id sound is_id, read_none es id (nowhere es id absent), none_counts)
+
+-- ---- the place, by what the search for the id finds, and where that is none, the search for a free entry
+
+-- what a search answers
+abbrev pub Answers : List (Option Service) → Option ℕ → Option ℕ → Type 0
+Answers es key r = IfSome r (λ i. i < length es) × FindsLast key_in key es r
+
+-- so the two searches answer the place, and none exactly where eight other ids are held
+pub searched : (es : List (Option Service)) (id : ℕ) (known r : Option ℕ) → Sound es → id < ids → Answers es (Some id) known → (known ≡ None → Answers es None r) → ((i : ℕ) → known ≡ Some i → r ≡ Some i) → MatchOption r (IsAbsent key_in (Some id) es) (IsPlaceFor es id) × (IsNone r ↔ (held (set (services_in es) id None) ≡ capacity))
+searched es id (Some i) r sound is_id found free same =
+    rw (same i refl) (place_known es id i sound found.0 found.1, (λ none. cc, λ full. absurd (room_known es id i sound is_id found.0 found.1 full)))
+searched es id None None sound is_id found free same =
+    (found.1, (λ none. no_room es id sound is_id found.1 (free refl).1, λ full. refl))
+searched es id None (Some i) sound is_id found free same =
+    (place_free es id i sound (free refl).0 found.1 (free refl).1, (λ none. cc, λ full. absurd (room_free es id i sound is_id (free refl).0 (free refl).1 full)))

@@ -1,95 +1,69 @@
--- What the services of a table say of one id. Assumes nothing.
-use Rattle.std.proofs.Common.{◌≡◌, ℕ, suc, ◌<◌, ◌≤◌, Bool, true, false, not, eqb, leb, List, [], ◌∷◌, length, get_or, set, Some, None, Option, sym, refl, ap, ◌∙◌, ⊎_elim, arith}
-use Rattle.std.specs.Option.{option_or}
-use Rattle.std.specs.Bool.{then_some}
+-- What the services of a table say of an id, by the entry that holds it. Assumes nothing.
+use Rattle.std.proofs.Common.{◌≡◌, ◌≢◌, ℕ, ◌<◌, ◌≤◌, Bool, true, false, List, length, get_or, Some, None, Option, nat_eq, sym, refl, ap, ◌∙◌, ⊎_elim, arith}
+use Rattle.std.specs.Option.{IfSome, option_eq, option_flatten, option_map}
+use Rattle.std.proofs.lemmas.Bool.{cases_lt, ne_eqb, eq-eqb}
+use Rattle.std.proofs.lemmas.Grind.{common_steps}
+use Rattle.std.proofs.lemmas.List.{get_or_default, get_or_past}
 use Rattle.std.proofs.lemmas.List.FromFn.{length-map-range_with_len, get_or-map-range_with_len}
-use Rattle.std.proofs.lemmas.List.{ext_get_or, get_or_past, get_or-set_same, get_or-set_other, length-set, set-get_or}
-use Rattle.std.proofs.lemmas.Bool.{and_parts, leb-false, ne_eqb, cases_eq, cases_lt, both_ways, cond-true}
-use Rattle.keyed.specs.Keys.{last_of}
-use Rattle.services.specs.declared.entry.Entry.{Entry}
-use Rattle.services.specs.declared.entry.Entry.TheVariants.{Free, Held}
+use Rattle.keyed.specs.Equality.{numbers, options}
+use Rattle.keyed.specs.Keys.{FindsLast}
+use Rattle.keyed.proofs.Found.{found_record}
+use Rattle.keyed.proofs.Latest.{last_none, last_found}
 use Rattle.service.specs.declared.value.Service.{Service}
-use Rattle.services.specs.Entries.{key_in, may_be_held, Lawful}
-use Rattle.service.specs.Rule.{ids, is_deletion, keeps_rule}
-use Rattle.services.specs.Services.{service_found, read_in, services_in}
+use Rattle.service.specs.Rule.{ids, keeps_rule}
+use Rattle.services.specs.Entries.{key_in, may_be_held, Holds, IsPlaceFor, Lawful}
+use Rattle.services.specs.Services.{read_in, services_in}
 
-id_at : (t : Bool) (s : Service) → leb ids s.id ≡ t → keeps_rule s ≡ true → s.id < ids
-id_at true s is rule = absurd (both_ways (keeps_rule s) (cond-true (leb ids s.id) false _ is) rule)
-id_at false s is rule = leb-false ids s.id is
+-- whether an entry has an id
+abbrev pub has : ℕ → Option Service → Bool
+has id e = option_eq nat_eq (key_in e) (Some id)
+
+-- an entry that does not hold a service with this id
+pub lacks : (e : Option Service) (id : ℕ) → ((s : Service) → e ≡ Some s → s.id ≢ id) → has id e ≡ false
+lacks None id other = refl
+lacks (Some s) id other = ne_eqb s.id id (other s refl)
+
+-- the same at an index, read with any default
+lacks_at : (es : List (Option Service)) (id k : ℕ) (d : Option Service) → k < length es → ((s : Service) → Holds es k s → s.id ≢ id) → has id (get_or es k d) ≡ false
+lacks_at es id k d within other = rw (get_or_default es k d None within) (lacks (get_or es k None) id other)
+
+-- no entry holds a service with this id
+abbrev pub Nowhere : List (Option Service) → ℕ → Type 0
+Nowhere es id = (i : ℕ) (s : Service) → Holds es i s → s.id ≢ id
+
+-- a service is held within the entries
+pub held_within : (es : List (Option Service)) (i : ℕ) (s : Service) → Holds es i s → i < length es
+held_within es i s here = grind (arith, get_or_past es i None)
+
+-- what is read of an id that stands in one entry alone, and of one that stands in none
+pub read_only : (es : List (Option Service)) (id at : ℕ) (s : Service) → IsPlaceFor es id at → Holds es at s → read_in es id ≡ Some s
+read_only es id at s place here =
+    ap option_flatten (last_found (has id) es at None place.within (ap (has id) here ∙ eq-eqb s.id id (place.own s here)) (λ k d low high. lacks_at es id k d high (λ t there same. let at_k = place.only k t there same in omega arith)) ∙ ap Some here)
+
+pub read_none : (es : List (Option Service)) (id : ℕ) → Nowhere es id → read_in es id ≡ None
+read_none es id nowhere = ap option_flatten (last_none (has id) es (λ k d low high. lacks_at es id k d high (nowhere k)))
 
 -- a value that keeps the rule has an id
 pub rule_id : (s : Service) → keeps_rule s ≡ true → s.id < ids
-rule_id s rule = id_at (leb ids s.id) s refl rule
+rule_id s rule = grind (arith, common_steps)
 
 pub held_id : (s : Service) → may_be_held s ≡ true → s.id < ids
-held_id s may = rule_id s (and_parts (keeps_rule s) (not (is_deletion s)) may).0
+held_id s may = grind (arith, common_steps)
 
-pub length-services : (es : List Entry) → length (services_in es) ≡ ids
+pub length-services : (es : List (Option Service)) → length (services_in es) ≡ ids
 unfolding services_in
 length-services es = length-map-range_with_len (read_in es) 0 ids
 
-pub read_at : (es : List Entry) (id : ℕ) → id < ids → get_or (services_in es) id None ≡ read_in es id
+-- what the services say of any number, be it an id or not
+pub get_or-services : (es : List (Option Service)) (id : ℕ) → Lawful es → get_or (services_in es) id None ≡ read_in es id
 unfolding services_in
-read_at es id is_id = get_or-map-range_with_len (read_in es) 0 ids id id None is_id (omega arith)
-
--- ---- a number that is no id
-
-pub lawful_rest : (e : Entry) (es : List Entry) → Lawful (e ∷ es) → Lawful es
-lawful_rest e es lawful = λ one. lawful (record { index = suc one.index; value = one.value; holds = one.holds })
-
-found_either : (o p : Option Entry) → service_found o ≡ None → service_found p ≡ None → service_found (option_or o p) ≡ None
-found_either None p a b = b
-found_either (Some e) p a b = a
-
-free_or_none : (t : Bool) → service_found (then_some t Free) ≡ None
-free_or_none true = refl
-free_or_none false = refl
-
-no_id_here : (e : Entry) (es : List Entry) (id : ℕ) → Lawful (e ∷ es) → ids ≤ id → service_found (then_some (eqb (key_in e) id) e) ≡ None
-no_id_here Free es id lawful past = free_or_none (eqb ids id)
-no_id_here (Held s) es id lawful past =
-    let below = held_id s (lawful (record { index = 0; value = s; holds = refl })) in
-    let other : s.id ≡ id → ⊥ = λ e. omega arith in
-    ap (λ t. service_found (then_some t (Held s))) (ne_eqb s.id id other)
-
-no_id : (es : List Entry) (id : ℕ) → Lawful es → ids ≤ id → read_in es id ≡ None
-unfolding last_of
-no_id [] id lawful past = refl
-no_id (e ∷ es) id lawful past =
-    found_either (last_of key_in id es) (then_some (eqb (key_in e) id) e) (no_id es id (lawful_rest e es lawful) past) (no_id_here e es id lawful past)
-
--- what the entries say of any number, be it an id or not
-pub read_any : (es : List Entry) (id : ℕ) → Lawful es → get_or (services_in es) id None ≡ read_in es id
-read_any es id lawful =
+get_or-services es id lawful =
     ⊎_elim
-    (λ (is_id : id < ids). read_at es id is_id)
-    (λ (past : ids ≤ id). get_or_past (services_in es) id None (let long = length-services es in omega arith) ∙ sym (no_id es id lawful past))
+    (λ (is_id : id < ids). get_or-map-range_with_len (read_in es) 0 ids id id None is_id (omega arith))
+    (λ (past : ids ≤ id). get_or_past (services_in es) id None (let long = length-services es in omega arith) ∙ sym (read_none es id (λ i s here same. let is_id = held_id s (lawful i s here) in omega arith)))
     (cases_lt id ids)
 
--- ---- entries that say the same of ids
-
--- of all ids
-pub services_same : (es fs : List Entry) → ((q : ℕ) → q < ids → read_in fs q ≡ read_in es q) → services_in fs ≡ services_in es
-services_same es fs same =
-    let long_fs = length-services fs in
-    ext_get_or None (services_in fs) (services_in es) (long_fs ∙ sym (length-services es)) (λ q within.
-    let is_id : q < ids = omega arith in
-    read_at fs q is_id ∙ same q is_id ∙ sym (read_at es q is_id))
-
--- of all ids but one
-pub services_but : (es fs : List Entry) (id : ℕ) (v : Option Service) → id < ids → read_in fs id ≡ v → ((q : ℕ) → q < ids → (q ≡ id → ⊥) → last_of key_in q fs ≡ last_of key_in q es) → services_in fs ≡ set (services_in es) id v
-services_but es fs id v is_id here elsewhere =
-    let long_fs = length-services fs in
-    let long_es = length-services es in
-    let long_set = length-set (services_in es) id v in
-    ext_get_or None (services_in fs) (set (services_in es) id v) (omega arith) (λ q within.
-    let q_id : q < ids = omega arith in
-    ⊎_elim
-    (λ (same : q ≡ id). read_at fs q q_id ∙ ap (read_in fs) same ∙ here ∙ sym (get_or-set_same (services_in es) id v None (omega arith)) ∙ ap (λ n. get_or (set (services_in es) id v) n None) (sym same))
-    (λ (other : q ≡ id → ⊥). read_at fs q q_id ∙ ap service_found (elsewhere q q_id other) ∙ sym (read_at es q q_id) ∙ sym (get_or-set_other (services_in es) id q v None other))
-    (cases_eq q id))
-
--- taking out what is not held changes nothing
-pub none_taken : (es : List Entry) (id : ℕ) → id < ids → read_in es id ≡ None → set (services_in es) id None ≡ services_in es
-none_taken es id is_id none =
-    ap (λ v. set (services_in es) id v) (sym (read_at es id is_id ∙ none)) ∙ set-get_or (services_in es) id None
+-- the services by what the search for an id finds
+pub services_found : (es : List (Option Service)) (id : ℕ) (at : Option ℕ) → Lawful es → IfSome at (λ i. i < length es) → FindsLast key_in (Some id) es at → get_or (services_in es) id None ≡ option_flatten (option_map (λ i. get_or es i None) at)
+services_found es id at lawful within last =
+    get_or-services es id lawful ∙ sym (ap option_flatten (found_record key_in (option_eq nat_eq) (options nat_eq numbers) (Some id) es at None within last))

@@ -1,12 +1,9 @@
 -- What a table answers to a value, what it means afterwards, and which entries it leaves. Assumes nothing.
-use Rattle.std.specs.Prelude.{◌≡◌, ℕ, Bool, true, cond, not, List, Some, None, Ok, Err, Option, Result, ◌==◌, ◌≢◌, slice_set}
-use Rattle.std.specs.List.{slice_get}
-use Rattle.services.specs.declared.entry.Entry.{Entry}
-use Rattle.services.specs.declared.entry.Entry.TheVariants.{Held}
+use Rattle.std.specs.Prelude.{◌≡◌, ℕ, Bool, IsTrue, not, List, Some, None, Ok, Err, Option, Result, ◌==◌, ◌≢◌, if◌then◌else◌, slice_set}
 use Rattle.services.specs.declared.table.Refusal.{Refusal}
 use Rattle.services.specs.declared.table.Refusal.TheVariants.{Rule, Full}
 use Rattle.service.specs.declared.value.Service.{Service}
-use Rattle.services.specs.Entries.{capacity, may_be_held}
+use Rattle.services.specs.Entries.{capacity, may_be_held, Holds}
 use Rattle.service.specs.Rule.{is_deletion, keeps_rule}
 use Rattle.services.specs.Services.{held}
 
@@ -17,24 +14,24 @@ is_full ss s = held (slice_set ss s.id None) == capacity
 -- the answer to a value, by the first condition that holds
 abbrev pub answer_to : List (Option Service) → Service → Result (Unit {0}) Refusal
 answer_to ss s =
-    cond (not (keeps_rule s)) (Err Rule)
-    (cond (is_deletion s) (Ok tt)
-    (cond (is_full ss s) (Err Full)
-    (Ok tt)))
+    if not (keeps_rule s) then Err Rule
+    else if is_deletion s then Ok tt
+    else if is_full ss s then Err Full
+    else Ok tt
 
 -- the services once the value was answered, by the first condition that holds
 abbrev pub afterwards : List (Option Service) → Service → List (Option Service)
 afterwards ss s =
-    cond (not (keeps_rule s)) ss
-    (cond (is_deletion s) (slice_set ss s.id None)
-    (cond (is_full ss s) ss
-    (slice_set ss s.id (Some s))))
+    if not (keeps_rule s) then ss
+    else if is_deletion s then slice_set ss s.id None
+    else if is_full ss s then ss
+    else slice_set ss s.id (Some s)
 
 -- every entry that holds another id is as it was
-abbrev pub OthersStay : List Entry → ℕ → List Entry → Type 0
-OthersStay before id after = (i : ℕ) (t : Service) → slice_get before i ≡ Some (Held t) → (t.id ≢ id) → slice_get after i ≡ Some (Held t)
+abbrev pub OthersStay : List (Option Service) → ℕ → List (Option Service) → Type 0
+OthersStay before id after = (i : ℕ) (t : Service) → Holds before i t → (t.id ≢ id) → Holds after i t
 
 -- a value is put in place: no entry of another id changes, and an entry that held the value's id holds the value, if that may be held
-pub record PutInPlace (before : List Entry) (s : Service) (after : List Entry) : Type 0 where
+pub record PutInPlace (before : List (Option Service)) (s : Service) (after : List (Option Service)) : Type 0 where
   pub others : OthersStay before s.id after
-  pub own : (i : ℕ) (t : Service) → slice_get before i ≡ Some (Held t) → t.id ≡ s.id → may_be_held s ≡ true → slice_get after i ≡ Some (Held s)
+  pub own : (i : ℕ) (t : Service) → Holds before i t → t.id ≡ s.id → IsTrue (may_be_held s) → Holds after i s

@@ -1,58 +1,41 @@
--- The entries of a table: the key and the service of each, and what holds of all. Assumes nothing.
-use Rattle.std.specs.Prelude.{◌≡◌, ℕ, ◌<◌, Bool, true, false, not, ◌&&◌, List, map, length, Some, None, Option}
-use Rattle.std.specs.List.{slice_get}
-use Rattle.keyed.specs.Keys.{Has}
-use Rattle.services.specs.declared.entry.Entry.{Entry}
-use Rattle.services.specs.declared.entry.Entry.TheVariants.{Free, Held}
+-- The entries of a table, each with the service that it holds or free: their keys, and what holds of all. Assumes nothing.
+use Rattle.std.specs.Prelude.{◌≡◌, ℕ, ◌<◌, Bool, IsTrue, not, ◌&&◌, List, length, Some, None, Option, slice_index_or}
+use Rattle.std.specs.Option.{option_map}
 use Rattle.service.specs.declared.value.Service.{Service}
-use Rattle.service.specs.Rule.{ids, is_deletion, keeps_rule}
+use Rattle.service.specs.Rule.{is_deletion, keeps_rule}
 
 -- a table has so many entries
 abbrev pub capacity : ℕ
 capacity = 8
 
--- the key of an entry: the id of its service, or where it is free the first number that is no id
-abbrev pub key_in : Entry → ℕ
-key_in Free = ids
-key_in (Held s) = s.id
-
--- the service that an entry holds
-abbrev pub service_in : Entry → Option Service
-service_in Free = None
-service_in (Held s) = Some s
-
--- whether an entry is free
-abbrev pub is_free : Entry → Bool
-is_free Free = true
-is_free (Held s) = false
+-- the key of an entry: the id of its service, or none where it is free
+abbrev pub key_in : Option Service → Option ℕ
+key_in e = option_map (λ s. s.id) e
 
 -- a value that may be held: it keeps the rule and is no deletion
 abbrev pub may_be_held : Service → Bool
 may_be_held s = keeps_rule s && not (is_deletion s)
 
--- two indices whose entries have one id
-pub record SameIdTwice (es : List Entry) : Type 0 where
-  pub shared : ℕ
-  pub is_id : shared < ids
-  pub i : ℕ
-  pub j : ℕ
-  pub first : Has (map key_in es) shared i
-  pub second : Has (map key_in es) shared j
+-- the entry at this index holds the value
+abbrev pub Holds : List (Option Service) → ℕ → Service → Type 0
+Holds es i s = slice_index_or es i None ≡ Some s
 
 -- no id stands in two entries
-abbrev pub Distinct : List Entry → Type 0
-Distinct es = (two : SameIdTwice es) → two.i ≡ two.j
-
--- an index whose entry holds a value
-pub record Holding (es : List Entry) : Type 0 where
-  pub index : ℕ
-  pub value : Service
-  pub holds : slice_get es index ≡ Some (Held value)
+abbrev pub Distinct : List (Option Service) → Type 0
+Distinct es = (i j : ℕ) (s t : Service) → Holds es i s → Holds es j t → s.id ≡ t.id → i ≡ j
 
 -- every value in an entry may be held
-abbrev pub Lawful : List Entry → Type 0
-Lawful es = (one : Holding es) → may_be_held one.value ≡ true
+abbrev pub Lawful : List (Option Service) → Type 0
+Lawful es = (i : ℕ) (s : Service) → Holds es i s → IsTrue (may_be_held s)
 
 -- what holds of the entries of every table: there are as many as it can hold, their ids are distinct, and their values may be held
-abbrev pub Sound : List Entry → Type 0
-Sound es = (length es ≡ capacity) × Distinct es × Lawful es
+pub record Sound (es : List (Option Service)) : Type 0 where
+  pub all : length es ≡ capacity
+  pub distinct : Distinct es
+  pub lawful : Lawful es
+
+-- this is the index of an entry for an id: it holds no other id, and no other entry holds this one
+pub record IsPlaceFor (es : List (Option Service)) (id at : ℕ) : Type 0 where
+  pub within : at < length es
+  pub own : (s : Service) → Holds es at s → s.id ≡ id
+  pub only : (i : ℕ) (s : Service) → Holds es i s → s.id ≡ id → i ≡ at

@@ -1,11 +1,11 @@
 -- What is promised of tables of services, beside what each call does. Assumes nothing.
-use Rattle.std.specs.Prelude.{◌≡◌, ℕ, ◌+◌, ◌≤◌, true, false, cond, List, length, Some, None, Ok, Err, count_by, Option, ◌≢◌, slice_index_or, slice_set}
+use Rattle.std.specs.Prelude.{◌≡◌, ℕ, ◌+◌, ◌≤◌, ◌↔◌, true, false, List, length, is_none, Some, None, Ok, Err, count_by, Option, ◌≢◌, if◌then◌else◌, slice_index_or, slice_set}
 use Rattle.services.specs.declared.table.Refusal.{Refusal}
 use Rattle.services.specs.declared.table.Refusal.TheVariants.{Rule, Full}
 use Rattle.services.specs.declared.table.Table.{Table}
 use Rattle.service.specs.declared.value.Service.{Service}
 use Rattle.services.specs.Accepting.{answer_to, afterwards}
-use Rattle.services.specs.Entries.{capacity, is_free, Distinct}
+use Rattle.services.specs.Entries.{capacity, Distinct}
 use Rattle.service.specs.Rule.{ids, is_deletion, keeps_rule}
 use Rattle.services.specs.Services.{services, nothing_held, held}
 
@@ -15,7 +15,7 @@ IdsAreDistinct = (t : Table) → Distinct t.entries
 
 -- the free entries of a table are as many as it can hold less the ids that it holds
 abbrev pub FreeEntriesAreWhatIsNotHeld : Type 0
-FreeEntriesAreWhatIsNotHeld = (t : Table) → count_by is_free t.entries + held (services t) ≡ capacity
+FreeEntriesAreWhatIsNotHeld = (t : Table) → count_by is_none t.entries + held (services t) ≡ capacity
 
 -- a value that is held at an id: it has that id, keeps the rule, and has a time other than 0
 pub record Rightful (id : ℕ) (s : Service) : Type 0 where
@@ -45,17 +45,15 @@ pub record NoRoom (ss : List (Option Service)) (s : Service) : Type 0 where
 
 -- full is answered exactly where there is no room
 abbrev pub FullExactlyWithoutRoom : Type 0
-FullExactlyWithoutRoom =
-    (ss : List (Option Service)) (s : Service) → (answer_to ss s ≡ Err Full → NoRoom ss s) × (NoRoom ss s → answer_to ss s ≡ Err Full)
+FullExactlyWithoutRoom = (ss : List (Option Service)) (s : Service) → (answer_to ss s ≡ Err Full) ↔ NoRoom ss s
 
 -- the rule is answered exactly where the value breaks it
 abbrev pub RuleExactlyWhereBroken : Type 0
-RuleExactlyWhereBroken =
-    (ss : List (Option Service)) (s : Service) → (answer_to ss s ≡ Err Rule → keeps_rule s ≡ false) × (keeps_rule s ≡ false → answer_to ss s ≡ Err Rule)
+RuleExactlyWhereBroken = (ss : List (Option Service)) (s : Service) → (answer_to ss s ≡ Err Rule) ↔ (keeps_rule s ≡ false)
 
 -- the value's id reads as the value, or as none where its time is 0, and every other id as before
 pub record Taken (before after : List (Option Service)) (s : Service) : Type 0 where
-  pub this : slice_index_or after s.id None ≡ cond (is_deletion s) None (Some s)
+  pub this : slice_index_or after s.id None ≡ (if is_deletion s then None else Some s)
   pub others : (id : ℕ) → (id ≢ s.id) → slice_index_or after id None ≡ slice_index_or before id None
 
 -- an accepted value is taken

@@ -2,4 +2,5 @@
 pub mod Accepting
 pub mod Entries
 pub mod Laws
+pub mod Refusing
 pub mod Services

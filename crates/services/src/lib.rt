@@ -1,5 +1,4 @@
 // The table of the services that are held.
 #![tactic(auto)]
 
-mod entry;
 pub mod table;

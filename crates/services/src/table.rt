@@ -1,16 +1,21 @@
 // The table of services: eight entries, no two with one id, and each value in them keeps the rule, by its type.
+ghost use Rattle.std.specs.Prelude.{Some};
 ghost use Rattle.services.specs.Entries.{Sound};
+ghost use Rattle.services.specs.Refusing.{text_of};
 
 mod methods;
 
-use crate::entry::Entry;
+use service::value::Service;
+use std::error::Error;
+use std::fmt;
 
 // The services that a table can hold at one time.
 const CAPACITY: usize = 8;
 
+// No `impl Model`: a clause says which entries a call leaves as they were.
 #[derive(Clone, Copy)]
 pub struct Table {
-    entries: [Entry; CAPACITY],
+    entries: [Option<Service>; CAPACITY],
     ghost sound: { Sound entries },
 }
 
@@ -22,3 +27,16 @@ pub enum Refusal {
     // As many other services are held as the table can hold.
     Full,
 }
+
+impl fmt::Display for Refusal {
+    ghost output = { λ refusal. Some (text_of refusal) };
+
+    fn fmt<W: fmt::Write>(&self, f: &mut fmt::Formatter<W>) -> fmt::Result {
+        f.write_str(match self {
+            Refusal::Rule => "the service breaks the rule",
+            Refusal::Full => "no entry is free",
+        })
+    }
+}
+
+impl Error for Refusal {}

@@ -1,15 +1,14 @@
 // The calls on a table of services: made empty, a value accepted, an id read, the entries left, emptied.
-ghost use Rattle.std.specs.Prelude.{◌≡◌, ◌+◌, ◌<◌, true, map, IfSome, if◌then◌else◌, Some, None, Ok, Err, slice_index_or, slice_set};
-ghost use Rattle.keyed.specs.Keys.{Search};
+ghost use Rattle.std.specs.Prelude.{◌≡◌, ◌+◌, ◌<◌, ◌↔◌, IsTrue, IsNone, IfSome, MatchOption, if◌then◌else◌, Some, None, Ok, Err, slice_index_or, slice_set};
+ghost use Rattle.keyed.specs.Keys.{FindsLast, IsAbsent};
 ghost use Rattle.services.specs.declared.table.Refusal.TheVariants.{Full};
 ghost use Rattle.services.specs.Accepting.{is_full, answer_to, afterwards, OthersStay, PutInPlace};
-ghost use Rattle.services.specs.Entries.{capacity, key_in, may_be_held};
+ghost use Rattle.services.specs.Entries.{capacity, key_in, may_be_held, IsPlaceFor};
 ghost use Rattle.services.specs.Laws.{TableLaws};
 ghost use Rattle.service.specs.Rule.{ids};
 ghost use Rattle.services.specs.Services.{services, held, nothing_held};
 
 use super::{CAPACITY, Refusal, Table};
-use crate::entry::{Entry, FREE};
 use keyed::last_with;
 use service::value::Service;
 
@@ -20,7 +19,7 @@ impl Table {
         ensures laws { TableLaws }
     {
         Table {
-            entries: [Entry::Free; CAPACITY],
+            entries: [None; CAPACITY],
         }
     }
 
@@ -32,24 +31,19 @@ impl Table {
     }
 
     // The service with this id, or none where none is held; a number that is no id has none.
+    #[tactic(auto, using(crate::proofs::Reading::services_found))]
     pub fn get(&self, id: u8) -> Option<Service>
         ensures { result ≡ slice_index_or (services self.now) id None }
     {
-        let at = self.find(id as usize)?;
-        self.entries[at].service()
+        self.entries[self.find(Some(id))?]
     }
 
     // How many entries are free.
+    #[tactic(auto, using(crate::proofs::Counting::counted_sound))]
     pub fn left(&self) -> usize
         ensures { result + held (services self.now) ≡ capacity }
     {
-        let mut free = 0;
-        for entry in &self.entries {
-            if let Entry::Free = entry {
-                free += 1;
-            }
-        }
-        free
+        self.entries.iter().filter(|entry| entry.is_none()).count()
     }
 
     // Takes a value in, or refuses it and leaves all as it was. A deletion takes the service out.
@@ -68,40 +62,45 @@ impl Table {
         self.place(service)
     }
 
-    // The index of the entry with this key; of several, as free entries may be, the last.
-    fn find(&self, key: usize) -> Option<usize>
-        ensures last { Search (map key_in self.now.entries) key result }
+    // The index of the entry with this id, or for none of a free one; of several, the last.
+    fn find(&self, id: Option<u8>) -> Option<usize>
+        ensures last { FindsLast key_in id self.now.entries result }
         ensures within { IfSome result (λ at. at < capacity) }
     {
-        last_with(&self.entries, key)
+        last_with(&self.entries, id)
+    }
+
+    // The index of the entry that has this id, or where none has it of a free one.
+    fn place_for(&self, id: u8) -> Option<usize>
+        requires { id < ids }
+        ensures place { MatchOption result (IsAbsent key_in (Some id) self.now.entries) (IsPlaceFor self.now.entries id) }
+        ensures full { IsNone result ↔ (held (slice_set (services self.now) id None) ≡ capacity) }
+    {
+        self.find(Some(id)).or_else(|| self.find(None))
     }
 
     // Takes the service with this id out; where it is not held there is nothing to do.
+    #[tactic(auto, using(crate::proofs::Changing::freed, crate::proofs::Changing::not_held))]
     fn remove(&mut self, id: u8)
         requires { id < ids }
         ensures after { services self.new ≡ slice_set (services self.old) id None }
         ensures others { OthersStay self.old.entries id self.new.entries }
     {
-        if let Some(at) = self.find(id as usize) {
-            self.entries[at] = Entry::Free;
+        if let Some(at) = self.find(Some(id)) {
+            self.entries[at] = None;
         }
     }
 
     // Puts a value into the entry that has its id, or where no entry has it into a free one.
+    #[tactic(auto, using(crate::proofs::Changing::changed))]
     fn place(&mut self, service: Service) -> Result<(), Refusal>
-        requires { may_be_held service ≡ true }
+        requires { IsTrue (may_be_held service) }
         ensures answer { result ≡ (if is_full (services self.old) service then Err Full else Ok tt) }
         ensures after { services self.new ≡ (if is_full (services self.old) service then services self.old else slice_set (services self.old) service.id (Some service)) }
         ensures in_place { PutInPlace self.old.entries service self.new.entries }
     {
-        if let Some(at) = self.find(service.id as usize) {
-            self.entries[at] = Entry::Held(service);
-            return Ok(());
-        }
-        if let Some(at) = self.find(FREE) {
-            self.entries[at] = Entry::Held(service);
-            return Ok(());
-        }
-        Err(Refusal::Full)
+        let at = self.place_for(service.id).ok_or(Refusal::Full)?;
+        self.entries[at] = Some(service);
+        Ok(())
     }
 }

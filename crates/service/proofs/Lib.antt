@@ -1,2 +1,0 @@
--- The lemmas that several proofs share of `service`.
-pub mod Bytes
