@@ -14,7 +14,7 @@ fn next(register: u16, byte: u8) -> u16
     (register >> 8) ^ fcs_table()[usize::from(low)]
 }
 
-// The check sequence of a row of bytes: the complemented register after all of them.
+/// The check sequence of a row of bytes: the complemented register after all of them.
 pub fn fcs16(bytes: &[u8]) -> u16
     ensures value { result ≡ fcs bytes.now }
     ensures nine_digits { NineDigits }

@@ -26,7 +26,7 @@ const TABLE: [u16; 256] = [
     0x3de3, 0x2c6a, 0x1ef1, 0x0f78,
 ];
 
-// The table, with its rule.
+/// The table, with its rule.
 pub fn fcs_table() -> &'static [u16; 256]
     ensures { TableRule result.now }
 {

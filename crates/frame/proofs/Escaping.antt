@@ -1,6 +1,6 @@
 -- Escaping, byte by byte and part by part, and back. Assumes nothing.
 use Rattle.std.proofs.Common.{◌≡◌, ℕ, ◌+◌, ◌*◌, ◌<◌, sum_by, ◌≤◌, false, cond, eqb, List, [], ◌∷◌, ◌++◌, length, get_or, take, Some, None, refl, ap, ◌∙◌, arith}
-use Rattle.std.proofs.ByRecursion.{All-append}
+use Rattle.std.proofs.lemmas.List.Elements.{All-append, All-nil}
 use Rattle.std.proofs.lemmas.Grind.{common_steps}
 use Rattle.std.proofs.lemmas.List.Sums.{sum_by-le}
 use Rattle.std.proofs.lemmas.Bool.Decides.{nat_tests}
@@ -39,5 +39,5 @@ byte_free : (b : ℕ) → FlagFree (escaped_byte b)
 byte_free b = grind (arith, nat_tests)
 
 pub flag_free : EscapedHoldsNoFlag
-flag_free [] = tt
+flag_free [] = All-nil (λ x. x ≡ flag → ⊥)
 flag_free (b ∷ content) = All-append (λ x. x ≡ flag → ⊥) (escaped_byte b) (escaped content) (byte_free b) (flag_free content)

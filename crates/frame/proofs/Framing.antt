@@ -1,5 +1,5 @@
 -- A frame written part by part, read back, and told from every other frame. Assumes nothing.
-use Rattle.std.proofs.Common.{◌≡◌, ℕ, ◌+◌, ◌-◌, ◌*◌, ◌^◌, ◌≤◌, cond, if◌then◌else◌, List, [], ◌∷◌, ◌++◌, length, get_or, take, Some, fold, unwrap_or, sym, refl, ap, ◌∙◌, append_assoc, arith, length-append}
+use Rattle.std.proofs.Common.{suc, ◌≡◌, ℕ, ◌+◌, ◌-◌, ◌*◌, ◌^◌, ◌≤◌, cond, if◌then◌else◌, List, [], ◌∷◌, ◌++◌, length, get_or, take, Some, fold, unwrap_or, sym, refl, ap, ◌∙◌, append_assoc, arith, length-append}
 use Rattle.std.proofs.lemmas.Nat.{div-add-mod'}
 use Rattle.std.proofs.lemmas.List.{take_at, get_or-append-add, same_from_push}
 use Rattle.std.proofs.lemmas.Bool.{cond-true, le-leb, ne_eqb}
@@ -43,8 +43,8 @@ puts_frame {a} message check opened first second closed is start room ends =
 flags_out : (raw acc : List ℕ) → FlagFree raw → heard (since acc) raw ≡ since (acc ++ raw)
 flags_out [] acc free = ap since (sym (mathlib.Core.List.append-nil acc))
 flags_out (b ∷ raw) acc free =
-    ap (λ t. fold hear (cond t (since []) (since (acc ++ b ∷ []))) raw) (ne_eqb b flag free.0)
-    ∙ flags_out raw (acc ++ b ∷ []) free.1
+    ap (λ t. fold hear (cond t (since []) (since (acc ++ b ∷ []))) raw) (ne_eqb b flag (free 0 b (omega arith)))
+    ∙ flags_out raw (acc ++ b ∷ []) (λ k d h. free (suc k) d (omega arith))
     ∙ ap since (append_assoc acc (b ∷ []) raw)
 
 -- a flag opens a piece, whatever the line was

@@ -1,6 +1,5 @@
 -- What is promised of frames and of receivers, beside what each call does. Assumes nothing.
-use Rattle.std.specs.Prelude.{◌≡◌, ℕ, ◌≤◌, List, [], ◌∷◌, ◌++◌, length, Some, fold, ◌≢◌}
-use Rattle.std.specs.List.{AllByRecursion}
+use Rattle.std.specs.Prelude.{◌≡◌, ℕ, ◌≤◌, List, [], ◌∷◌, ◌++◌, length, Some, fold, ◌≢◌, All}
 use Rattle.frame.specs.declared.verdict.Verdict.TheVariants.{Good}
 use Rattle.frame.specs.Collected.{kept_of, judged}
 use Rattle.frame.specs.Escapes.{flag, escaped, unescaped}
@@ -10,7 +9,7 @@ use Rattle.frame.specs.Verdicts.{content_of, verdict_of}
 
 -- no byte of it is a flag
 abbrev pub FlagFree : List ℕ → Type 0
-FlagFree bytes = AllByRecursion (λ b. b ≢ flag) bytes
+FlagFree bytes = All (λ b. b ≢ flag) bytes
 
 -- what was escaped is read back as it was
 abbrev pub UnescapingUndoesEscaping : Type 0

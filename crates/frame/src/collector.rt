@@ -3,7 +3,7 @@ ghost use Rattle.std.specs.Prelude.{◌≡◌, ℕ, ◌≤◌, List, [], ◌∷�
 ghost use Rattle.frame.specs.Collected.{kept, kept_by, nothing, added, resolved, collect, judged, Collected};
 ghost use Rattle.frame.specs.Contents.{bytes_of};
 ghost use Rattle.frame.specs.Escapes.{stands_for};
-ghost use Rattle.frame.specs.Verdicts.{shortest, content_of, due, carried, verdict_of};
+ghost use Rattle.frame.specs.Verdicts.{content_of, due, carried, verdict_of};
 ghost use Rattle.frame.specs.declared.collector.Escapes.TheVariants.{Whole};
 ghost use Rattle.frame.specs.declared.verdict.Verdict.TheVariants.{Good};
 
@@ -14,7 +14,7 @@ use crate::verdict::Verdict;
 use fcs::fcs16;
 
 // How the escapes stand in the bytes so far.
-#[derive(Clone, Copy)]
+#[derive(Clone, Copy, Debug)]
 enum Escapes {
     // Each is right.
     Whole,
@@ -24,8 +24,9 @@ enum Escapes {
     Bad,
 }
 
-// Clauses see it through `kept_by`: a `Copy` type that holds a content cannot have an `impl Model`, for the reason that stands there.
-#[derive(Clone, Copy)]
+/// The bytes of one piece, as far as they came.
+// Clauses see it through `kept_by`: it is `Copy` and holds a content, which cannot have an `impl Model` then (content.rt).
+#[derive(Clone, Copy, Debug)]
 pub struct Collector {
     content: Content,
     // More content came than is kept. It is no `Option`: there is a content either way, and under each of the three escapes.
@@ -34,7 +35,7 @@ pub struct Collector {
 }
 
 impl Collector {
-    // A piece of which no byte has come.
+    /// A piece of which no byte has come.
     #[tactic(auto, unfolding(crate::specs::Collected::kept_of))]
     pub fn new() -> Collector
         ensures keeps { kept_by result ≡ nothing }
@@ -47,7 +48,7 @@ impl Collector {
         }
     }
 
-    // Drops all that was collected: the next byte is the first of a piece.
+    /// Drops all that was collected: the next byte is the first of a piece.
     #[tactic(auto, unfolding(crate::specs::Collected::kept_of))]
     pub fn clear(&mut self)
         ensures keeps { kept_by self.new ≡ nothing }
@@ -58,7 +59,7 @@ impl Collector {
         self.escapes = Escapes::Whole; // a half-read escape is not carried over a flag
     }
 
-    // Takes the next byte of the piece.
+    /// Takes the next byte of the piece.
     #[tactic(auto, unfolding(crate::specs::Collected::kept_of))]
     pub fn put(&mut self, byte: u8)
         ensures keeps { kept_by self.new ≡ collect (kept_by self.old) byte }
@@ -97,7 +98,7 @@ impl Collector {
         }
     }
 
-    // The verdict, should the piece end here.
+    /// The verdict, should the piece end here.
     #[tactic(auto, using(crate::proofs::Pieces::piece_verdict))]
     pub fn verdict(&self) -> Verdict
         ensures keeps { result ≡ judged (kept_by self.now) }
@@ -127,7 +128,7 @@ impl Collector {
         }
     }
 
-    // The content, as far as it was collected.
+    /// The content, as far as it was collected.
     #[tactic(auto, using(crate::proofs::Pieces::piece_content))]
     pub fn content(&self) -> &[u8]
         ensures keeps { result.now ≡ (kept_by self.now).content }
@@ -139,7 +140,7 @@ impl Collector {
 
 // Whether the last two bytes, the low byte first, are the check sequence of those before them.
 fn carries_its_check(content: &[u8]) -> bool
-    ensures { shortest ≤ length content.now → result ≡ (due content.now == carried content.now) }
+    ensures { 2 ≤ length content.now → result ≡ (due content.now == carried content.now) }
 {
     match content {
         [message @ .., low, high] => fcs16(message) == u16::from_le_bytes([*low, *high]),

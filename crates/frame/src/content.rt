@@ -9,7 +9,7 @@ use crate::LONGEST;
 pub(crate) struct Full;
 
 // The memory of a content. What lies past the content's count is of no meaning.
-#[derive(Clone, Copy)]
+#[derive(Clone, Copy, Debug)]
 struct Row {
     bytes: [u8; LONGEST],
 }
@@ -36,7 +36,7 @@ impl Row {
 
 // The first `count` bytes of the row.
 // No `ArrayVec`, which is not `Copy` as a receiver is, and no `impl Model`, which at a `Copy` type has to give back the bytes past the count.
-#[derive(Clone, Copy)]
+#[derive(Clone, Copy, Debug)]
 pub(crate) struct Content {
     count: usize,
     row: Row,

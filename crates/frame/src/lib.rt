@@ -9,7 +9,7 @@ pub mod receiver;
 pub mod verdict;
 pub mod writer;
 
-// Opens and closes every frame, and stands nowhere inside one.
+/// Opens and closes every frame, and stands nowhere inside one.
 pub const FLAG: u8 = 0x7e;
 
 // A content has at most this many bytes.

@@ -9,15 +9,16 @@ use crate::FLAG;
 use crate::collector::Collector;
 use crate::verdict::Verdict;
 
-// Clauses see it through `hearing`, as they see its piece through `kept_by`.
-#[derive(Clone, Copy)]
+/// Waits for a first flag, and then collects the piece since the last one.
+// Clauses see it through `hearing`: it is `Copy` and holds a content, which cannot have an `impl Model` then (content.rt).
+#[derive(Clone, Copy, Debug)]
 pub struct Receiver {
     // The piece since the last flag; none while no flag came yet.
     piece: Option<Collector>,
 }
 
 impl Receiver {
-    // A receiver that waits for a first flag.
+    /// A receiver that waits for a first flag.
     #[tactic(auto, using(crate::proofs::Following::receiver_laws))]
     pub fn new() -> Receiver
         ensures hears { hearing result ≡ silent }
@@ -27,14 +28,14 @@ impl Receiver {
         Receiver { piece: None }
     }
 
-    // Takes one byte from the line. A flag ends whatever was collected and begins a new piece.
+    /// Takes one byte from the line. A flag ends whatever was collected and begins a new piece.
     pub fn put(&mut self, byte: u8)
         ensures hears { hearing self.new ≡ hear_on (hearing self.old) byte }
         ensures line { (line : Line) → Hears line self.old → Hears (hear line byte) self.new }
     {
         if byte == FLAG {
             match &mut self.piece {
-                Some(piece) => piece.clear(),
+                Some(piece) => piece.clear(), // in place: a new one would be written whole at each flag
                 None => self.piece = Some(Collector::new()),
             }
         } else if let Some(piece) = &mut self.piece {
@@ -42,7 +43,7 @@ impl Receiver {
         }
     }
 
-    // The verdict on the piece that a flag would close now; none while it waits for the first flag.
+    /// The verdict on the piece that a flag would close now; none while it waits for the first flag.
     pub fn closing(&self) -> Option<Verdict>
         ensures hears { result ≡ closes (hearing self.now) }
         ensures line { (line : Line) → Hears line self.now → result ≡ verdict_at line }
@@ -50,7 +51,7 @@ impl Receiver {
         self.piece.as_ref().map(|piece| piece.verdict())
     }
 
-    // The content of the piece, as far as it was collected; no byte while it waits.
+    /// The content of the piece, as far as it was collected; no byte while it waits.
     pub fn content(&self) -> &[u8]
         ensures hears { result.now ≡ content_kept (hearing self.now) }
         ensures silent { Hears waiting self.now → result.now ≡ [] }

@@ -10,8 +10,9 @@ use crate::cursor::Cursor;
 use crate::escape::escaped_len;
 use fcs::fcs16;
 
-// Writes the frame of a message, which is a content without its check bytes, at the buffer's start and answers its length.
-// Where it does not fit, it answers none and writes nothing: so it measures first.
+/// Writes the frame of a message, which is a content without its check bytes, at the buffer's start and answers its length.
+/// Where it does not fit, it answers none and writes nothing: so it measures first.
+// The buffer is the caller's, and the length of what it holds is answered beside it, since the library takes no heap.
 #[tactic(auto, using(crate::proofs::Framing::frame_length, crate::proofs::Framing::frame_laws))]
 pub fn write_frame(message: &[u8], out: &mut [u8]) -> Option<usize>
     ensures count { result ≡ (if fits_into (frame_of message.now) out.old then Some (length (frame_of message.now)) else None) }

@@ -7,18 +7,17 @@ use recording::listing::{LINE_ROOM, line, names};
 use recording::reader::read;
 use std::alloc::{AllocError, Global};
 
-// The names line and a line for each piece; or one line that says why the recording is refused.
+/// The names line and a line for each piece; or one line that says why the recording is refused.
 #[tactic(auto, using(crate::proofs::Worked::worked_listing, crate::proofs::Lists::refused_listing))]
-pub fn list(heap: Global, recording: &[u8]) -> Result<Vec<u8>, AllocError>
+pub fn list(alloc: Global, recording: &[u8]) -> Result<Vec<u8>, AllocError>
     ensures text { IfOk result (λ v. v.items ≡ listing_of recording.now) }
     ensures worked { WorkedListing }
 {
     if let Err(refusal) = read(recording, 0) {
-        let line = format!(in heap; "{refusal}\n")?;
-        return Ok(line.into_bytes());
+        return Ok(format!(in alloc; "{refusal}\n")?.into_bytes());
     }
     let mut row = [0; LINE_ROOM]; // has room for any line, so that no call below is refused
-    let mut text = Vec::new(heap);
+    let mut text = Vec::new(alloc);
     let count = names(&mut row).unwrap();
     text.extend_from_slice(&row[..count])?;
     let mut place = 0;

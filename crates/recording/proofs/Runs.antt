@@ -4,7 +4,6 @@ use Rattle.std.specs.List.{position_or_len}
 use Rattle.std.proofs.lemmas.Bool.{eqb-true, eqb-false}
 use Rattle.std.proofs.lemmas.Grind.{common_steps}
 use Rattle.std.proofs.lemmas.List.{drop-drop, get_or-take}
-use Rattle.std.proofs.lemmas.List.Elements.{recursion_from_All}
 use Rattle.std.proofs.lemmas.List.Sums.{prefix_len-le-length, split_at_first, fails_before_first, passes_at_first}
 use Rattle.frame.specs.Escapes.{flag}
 use Rattle.frame.specs.Laws.{FlagFree}
@@ -41,9 +40,9 @@ module _ (bytes : List ℕ) (start : ℕ) where
 
   pub flag_free : FlagFree (run_from bytes start)
   unfolding run_from
-  flag_free = recursion_from_All _ _ (λ k d inside is.
+  flag_free = λ k d inside is.
       let here : k < reach = omega (arith, length_run) in
-      eqb-false _ _ (fails_before_first is_flag rest k d here) (sym (get_or-take reach rest k d here) ∙ is))
+      eqb-false _ _ (fails_before_first is_flag rest k d here) (sym (get_or-take reach rest k d here) ∙ is)
 
   -- a run that ends before the recording does ends at a flag
   pub run_flag : stop < length bytes → run_from bytes start ++ (flag ∷ drop (stop + 1) bytes) ≡ rest

@@ -1,19 +1,20 @@
 // The listing of a recording: the names line, and the line of a piece.
-ghost use Rattle.std.specs.Prelude.{◌≡◌, ◌≤◌, length, IfOk, Ok};
+ghost use Rattle.std.specs.Prelude.{◌≡◌, ◌≤◌, length, IfOk, None, Ok};
 ghost use Rattle.frame.specs.Written.{written};
+ghost use Rattle.recording.specs.Pieces.{piece_at};
 ghost use Rattle.recording.specs.Listing.{room, names_line, line_at, into, counted, filled};
 
 use crate::reader::read;
 use crate::status::Refusal;
 use crate::writing::line_of;
 
-// A shorter line buffer is refused; no line is longer than this.
+/// A shorter line buffer is refused; no line is longer than this.
 pub const LINE_ROOM: usize = 32;
 
 // The names of a listing line's fields, as a line.
 const NAMES: &[u8] = b"place bytes verdict command\n";
 
-// Writes the names line and answers its length: a buffer is lent, since the interface is fixed and a library takes no heap.
+/// Writes the names line and answers its length: a buffer is lent, since the interface is fixed and a library takes no heap.
 pub fn names(out: &mut [u8]) -> Result<usize, Refusal>
     ensures count { result ≡ counted (into out.old (Ok names_line)) }
     ensures bytes { out.new ≡ filled out.old (into out.old (Ok names_line)) }
@@ -25,12 +26,13 @@ pub fn names(out: &mut [u8]) -> Result<usize, Refusal>
     Ok(put(out, NAMES))
 }
 
-// Writes the listing line of the piece that a place speaks of, and answers its length: 0 at the end.
+/// Writes the listing line of the piece that a place speaks of, and answers its length: 0 at the end, as the fixed interface has it.
 #[tactic(auto, unfolding(frame::specs::Written::written))]
 pub fn line(recording: &[u8], place: usize, out: &mut [u8]) -> Result<usize, Refusal>
     ensures count { result ≡ counted (into out.old (line_at recording.now place)) }
     ensures bytes { out.new ≡ filled out.old (into out.old (line_at recording.now place)) }
     ensures within { IfOk result (λ n. n ≤ room) }
+    ensures end { result ≡ Ok 0 → (piece_at recording.now place).status ≡ Ok None }
 {
     if out.len() < LINE_ROOM {
         return Err(Refusal::ShortBuffer);

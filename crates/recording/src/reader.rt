@@ -11,24 +11,24 @@ use frame::FLAG;
 use frame::collector::Collector;
 use frame::verdict::Verdict;
 
-// A longer recording is refused.
+/// A longer recording is refused.
 pub const LIMIT: usize = 65_536;
 
-// A piece that a place in a recording speaks of.
+/// A piece that a place in a recording speaks of.
 #[derive(Clone, Copy, PartialEq, Eq, Debug)]
 pub struct Reading<'a> {
     pub label: Label,
-    // Where the run begins.
+    /// Where the run begins.
     pub start: usize,
-    // The run, without the flag that closes it.
+    /// The run, without the flag that closes it.
     pub raw: &'a [u8],
-    // The place to go on.
+    /// The place to go on.
     pub next: usize,
-    // The first byte of a good content.
+    /// The first byte of a good content. It is no part of the label: a verdict is one of six, with no byte of what was judged.
     pub command: Option<u8>,
 }
 
-// Answers the number of what the place speaks of, the raw piece, and the place to go on: past the closing flag, or the recording's end.
+/// Answers the number of what the place speaks of, the raw piece, and the place to go on: past the closing flag, or the recording's end.
 // A tuple with a number, and a recording with a place beside it, since the calls on a recording are a fixed interface.
 pub fn piece(recording: &[u8], place: usize) -> (u16, &[u8], usize)
     ensures status { result.0 ≡ status_number (piece_at recording.now place).status }
@@ -44,7 +44,7 @@ pub fn piece(recording: &[u8], place: usize) -> (u16, &[u8], usize)
     }
 }
 
-// Reads at a place: none at the recording's end. The checks of the recording's length and of the place come first, in this order.
+/// Reads at a place: none at the recording's end. The checks of the recording's length and of the place come first, in this order.
 #[tactic(auto, unfolding(crate::specs::Pieces::piece_at, crate::specs::Pieces::run_from))]
 pub fn read(recording: &[u8], place: usize) -> Result<Option<Reading<'_>>, Refusal>
     ensures answer { answered recording.now place result ≡ piece_at recording.now place }
@@ -62,10 +62,10 @@ pub fn read(recording: &[u8], place: usize) -> Result<Option<Reading<'_>>, Refus
         return Err(Refusal::PlaceBeyond);
     }
     let start = start_at(recording, place);
-    let raw = up_to_flag(&recording[start..]);
     if start == recording.len() {
         return Ok(None);
     }
+    let raw = up_to_flag(&recording[start..]);
     let end = start + raw.len();
     let (label, command) = judge(recording.len(), start, raw);
     Ok(Some(Reading {

@@ -6,25 +6,25 @@ use frame::verdict::Verdict;
 use std::error::Error;
 use std::fmt;
 
-// Why a call was refused. Nothing is changed then.
+/// Why a call was refused. Nothing is changed then.
 #[derive(Clone, Copy, PartialEq, Eq, Debug)]
 pub enum Refusal {
-    // The line buffer has fewer than 32 bytes.
+    /// The line buffer has fewer than 32 bytes.
     ShortBuffer,
-    // The recording has more than 65,536 bytes.
+    /// The recording has more than 65,536 bytes.
     LongRecording,
-    // The place lies beyond the recording's end.
+    /// The place lies beyond the recording's end.
     PlaceBeyond,
 }
 
-// What a run of bytes in a recording is.
+/// What a run of bytes in a recording is.
 #[derive(Clone, Copy, PartialEq, Eq, Debug)]
 pub enum Label {
-    // No flag comes after it.
+    /// No flag comes after it.
     Open,
-    // It begins the recording, with no flag before it.
+    /// It begins the recording, with no flag before it.
     Stray,
-    // It stands between two flags, with this verdict.
+    /// It stands between two flags, with this verdict.
     Closed(Verdict),
 }
 

@@ -9,12 +9,13 @@ use crate::reader::Reading;
 use arrayvec::ArrayVec;
 use itoa::Buffer;
 
-// The line of a piece.
+// The line of a piece. Not by `write!`, whose contract does not say when it succeeds: a line never fails.
 #[tactic(auto, using(crate::proofs::Fields::five_digits), unfolding(crate::specs::Listing::line_of))]
 pub(crate) fn line_of(piece: Reading<'_>) -> ArrayVec<u8, LINE_ROOM>
     requires start { piece.start ≤ limit }
     requires raw { length piece.raw.now ≤ limit }
-    ensures { result.items ≡ line_of piece.entry.label (located piece.entry) }
+    ensures value { result.items ≡ line_of piece.entry.label (located piece.entry) }
+    ensures some { 0 < length result.items }
 {
     let mut number = Buffer::new();
     let mut line = ArrayVec::new();

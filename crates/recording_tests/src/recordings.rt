@@ -6,7 +6,7 @@ use std::alloc::Global;
 use std::process::Abort;
 use std::test::Fail;
 
-// The lines of all pieces, going on from place 0; at each the piece call answers what was read there.
+// The lines of all pieces, going on from place 0; at each the piece call answers what was read there, and at the end none.
 fn listing(rt: &impl Abort, heap: Global, recording: &[u8]) -> Result<Vec<u8>, Fail> {
     let mut text = Vec::new(heap);
     let mut row = [0; 32];
@@ -18,6 +18,8 @@ fn listing(rt: &impl Abort, heap: Global, recording: &[u8]) -> Result<Vec<u8>, F
         text.extend_from_slice(&row[..count])?;
         place = reading.next;
     }
+    assert_eq!(rt; line(recording, place, &mut row), Ok(0));
+    assert_eq!(rt; counted(recording, place), (0, 0, recording.len()));
     Ok(text)
 }
 
