@@ -15,10 +15,10 @@ module _ {R K : Type 0} (key : R → K) (equal : K → K → Bool) (tells : Tell
   lacks r other = false_from_ne_true (has r) (λ e. other ((tells (key r) wanted).0 e))
 
   pub none_later : (records : List R) (i : ℕ) → IsLast key wanted records i → NoneFrom has records (i + 1)
-  none_later records i last = λ k d low high. lacks (get_or records k d) (last.1 k d low high)
+  none_later records i last = λ k d low high. lacks (get_or records k d) (last.2 k d low high)
 
   pub has_there : (records : List R) (i : ℕ) (d : R) → IsLast key wanted records i → has (get_or records i d) ≡ true
-  has_there records i d last = (tells (key (get_or records i d)) wanted).1 (last.0 d)
+  has_there records i d last = (tells (key (get_or records i d)) wanted).1 (last.1 d)
 
   pub found_index : (records : List R) (result : Option ℕ) → IfSome result (λ i. i < length records) → FindsLast key wanted records result → result ≡ last_index has records
   found_index records None within absent = sym (index_none has records (λ k d low high. lacks (get_or records k d) (absent k d high)))

@@ -94,16 +94,6 @@ module _ {R : Type 0} (passes : R → Bool) where
   last-set_other (q ∷ records) zero r d was is = simp (was, is)
   last-set_other (q ∷ records) (suc i) r d was is = ap (λ o. option_or o (then_some (passes q) q)) (last-set_other records i r d was is)
 
-  -- a record that passes is the last one where no later one does
-  pub last-set_same : (records : List R) (i : ℕ) (r : R) → i < length records → passes r ≡ true → NoneFrom passes records (i + 1) → last_of passes (set records i r) ≡ Some r
-  unfolding last_of
-  last-set_same [] i r within is none = absurd (omega arith)
-  last-set_same (q ∷ records) zero r within is none =
-      let rest = last_none records (λ k d low high. none (suc k) d (omega arith) (omega arith)) in
-      (λ i. option_or (rest i) (then_some (is i) r))
-  last-set_same (q ∷ records) (suc i) r within is none =
-      ap (λ o. option_or o (then_some (passes q) q)) (last-set_same records i r (omega arith) is (λ k d low high. none (suc k) d (omega arith) (omega arith)))
-
   passes_own : (t : Bool) (r q : R) → passes r ≡ t → then_some t r ≡ Some q → passes q ≡ true
   passes_own true r q e is = let same : r ≡ q = cc in cc
   passes_own false r q e is = cc

@@ -1,5 +1,5 @@
 -- Records by their keys: what a search for the last record with a key answers, and which record that is. Assumes nothing.
-use Rattle.std.specs.Prelude.{◌≡◌, ◌≢◌, ℕ, suc, ◌+◌, Bool, List, [], ◌∷◌, length, None, Option, All, MatchOption}
+use Rattle.std.specs.Prelude.{◌≡◌, ◌≢◌, ℕ, suc, ◌+◌, ◌<◌, Bool, List, [], ◌∷◌, length, None, Option, All, MatchOption}
 use Rattle.std.specs.Bool.{then_some}
 use Rattle.std.specs.List.{HoldsAt, AllWithin}
 use Rattle.std.specs.Option.{option_map, option_or}
@@ -8,9 +8,10 @@ use Rattle.std.specs.Option.{option_map, option_or}
 abbrev pub IsAbsent : {R K : Type 0} → (R → K) → K → List R → Type 0
 IsAbsent key wanted records = All (λ r. key r ≢ wanted) records
 
--- the record at this index has the key, and no later one has it
+-- there is a record at this index, it has the key, and no later one has it
 abbrev pub IsLast : {R K : Type 0} → (R → K) → K → List R → ℕ → Type 0
-IsLast key wanted records i = HoldsAt (λ r. key r ≡ wanted) records i × AllWithin (λ r. key r ≢ wanted) records (i + 1) (length records)
+IsLast key wanted records i =
+    (i < length records) × HoldsAt (λ r. key r ≡ wanted) records i × AllWithin (λ r. key r ≢ wanted) records (i + 1) (length records)
 
 -- an index is answered only for the last record with the key, and none only where no record has it
 abbrev pub FindsLast : {R K : Type 0} → (R → K) → K → List R → Option ℕ → Type 0

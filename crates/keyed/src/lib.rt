@@ -6,11 +6,12 @@ ghost use Rattle.std.specs.Option.{option_map};
 ghost use Rattle.keyed.specs.Equality.{TellsApart, numbers, options};
 ghost use Rattle.keyed.specs.Keys.{FindsLast, last_index, last_of};
 
-// What may be a key: keys that compare equal are the same key.
+/// What may be a key: keys that compare equal are the same key.
 pub trait Key: PartialEq + Copy {
     ghost tells_apart: { TellsApart Self.eq };
 }
 
+// One block for each type of number: a block for all of them would need a trait that says what this law says.
 impl Key for u8 {
     ghost tells_apart = { numbers };
 }
@@ -24,7 +25,7 @@ impl<K: Key> Key for Option<K> {
     ghost tells_apart = { options K.eq K.tells_apart };
 }
 
-// A record with a key.
+/// A record with a key.
 pub trait Keyed {
     type Key: Key;
 
@@ -46,7 +47,7 @@ impl<R: Keyed> Keyed for Option<R> {
     }
 }
 
-// The index of the last record with this key, or none where no record has it.
+/// The index of the last record with this key, or none where no record has it.
 pub fn last_with<R: Keyed>(records: &[R], wanted: R::Key) -> Option<usize>
     ensures last { FindsLast R.key wanted records.now result }
     ensures within { IfSome result (λ i. i < length records.now) }

@@ -6,6 +6,7 @@ ghost use Rattle.service.specs.Domains.{Reads};
 use std::error::Error;
 use std::fmt;
 
+/// What a service is for.
 #[derive(Clone, Copy, PartialEq, Eq, Debug)]
 pub enum Domain {
     Publish,
@@ -13,7 +14,7 @@ pub enum Domain {
     BlockTransfer,
 }
 
-// A number that stands for no domain.
+/// A number that stands for no domain.
 #[derive(Clone, Copy, PartialEq, Eq, Debug)]
 pub struct UnknownDomain(pub u8);
 

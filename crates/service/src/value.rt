@@ -2,18 +2,18 @@
 ghost use Rattle.std.specs.Prelude.{◌≡◌};
 ghost use Rattle.service.specs.Layout.{bytes_of, service_of};
 ghost use Rattle.service.specs.Laws.{ReadingUndoesWriting, WritingUndoesReading};
-ghost use Rattle.service.specs.Rule.{keeps_rule};
+ghost use Rattle.service.specs.Rule.{is_deletion, keeps_rule};
 
 use crate::domain::Domain;
 use keyed::Keyed;
 
-// A service has so many bytes on the line.
+/// A service has so many bytes on the line.
 pub const SIZE: usize = 9;
 
-// Every id is below this number.
-pub const IDS: u8 = 128;
+/// Every id is below this number.
+pub const IDS: usize = 128;
 
-// The flags of a service that is a source.
+// The flags of a service that is a source. Numbers and no enum, since flags are bits, of which a block transfer may have any of two.
 const SOURCE: u8 = 1;
 
 // The flags of an intermittent source.
@@ -22,6 +22,7 @@ const INTERMITTENT_SOURCE: u8 = 5;
 // The highest flags that a block transfer may have.
 const TRANSFER_FLAGS: u8 = 3;
 
+/// A service value, as it comes over the line: it may break the rule.
 #[derive(Clone, Copy, PartialEq, Eq, Debug)]
 pub struct Service {
     pub id: u8,
@@ -29,7 +30,7 @@ pub struct Service {
     // A byte and no `Domain`: a value that breaks the rule, and a deletion, may have any.
     pub domain: u8,
     pub destination: u16,
-    // A time of 0 asks for the service to be deleted.
+    /// A time of 0 asks for the service to be deleted: a number and no `Option`, since these are the fields as they come over the line.
     pub time: u32,
 }
 
@@ -51,12 +52,13 @@ impl From<[u8; SIZE]> for Service {
         ensures value { result ≡ service_of bytes }
         ensures undoes { ReadingUndoesWriting }
     {
+        let [id, flags, domain, high, low, first, second, third, fourth] = bytes;
         Service {
-            id: bytes[0],
-            flags: bytes[1],
-            domain: bytes[2],
-            destination: u16::from_be_bytes([bytes[3], bytes[4]]),
-            time: u32::from_be_bytes([bytes[5], bytes[6], bytes[7], bytes[8]]),
+            id,
+            flags,
+            domain,
+            destination: u16::from_be_bytes([high, low]),
+            time: u32::from_be_bytes([first, second, third, fourth]),
         }
     }
 }
@@ -86,14 +88,21 @@ impl From<Service> for [u8; SIZE] {
 }
 
 impl Service {
-    // Whether the value may be accepted. A deletion asks only for an id that there is.
+    /// Whether the value asks for its service to be deleted.
+    pub fn is_deletion(self) -> bool
+        ensures { result ≡ is_deletion self }
+    {
+        self.time == 0
+    }
+
+    /// Whether the value may be accepted. A deletion asks only for an id that there is.
     pub fn keeps_rule(self) -> bool
         ensures { result ≡ keeps_rule self }
     {
-        if self.id >= IDS {
+        if usize::from(self.id) >= IDS {
             return false;
         }
-        if self.time == 0 {
+        if self.is_deletion() {
             return true;
         }
         match Domain::try_from(self.domain) {

@@ -59,8 +59,8 @@ some_held (Some s) id key = (s, refl, cc)
 pub place_known : (es : List (Option Service)) (id at : ℕ) → Sound es → at < length es → IsLast key_in (Some id) es at → IsPlaceFor es id at
 place_known es id at sound within last = record {
   within = within;
-  own = λ s here. grind (arith, last.0 None);
-  only = λ i s here same. grind (arith, last.0 None, some_held (get_or es at None) id (last.0 None), sound.distinct);
+  own = λ s here. grind (arith, last.1 None);
+  only = λ i s here same. grind (arith, last.1 None, some_held (get_or es at None) id (last.1 None), sound.distinct);
 }
 
 -- the entry that has an id, freed

@@ -17,7 +17,7 @@ use Rattle.services.proofs.Reading.{read_only, read_none, get_or-services, lengt
 pub place_free : (es : List (Option Service)) (id at : ℕ) → Sound es → at < length es → IsAbsent key_in (Some id) es → IsLast key_in None es at → IsPlaceFor es id at
 place_free es id at sound within absent free = record {
   within = within;
-  own = λ s here. grind (arith, free.0 None);
+  own = λ s here. grind (arith, free.1 None);
   only = λ i s here same. absurd (nowhere es id absent i s here same);
 }
 
@@ -42,13 +42,13 @@ room es id sound is_id =
 -- the id held: at most seven others are
 room_known : (es : List (Option Service)) (id at : ℕ) → Sound es → id < ids → at < length es → IsLast key_in (Some id) es at → held (set (services_in es) id None) ≢ capacity
 room_known es id at sound is_id within last full =
-    let entry = some_held (get_or es at None) id (last.0 None) in
+    let entry = some_held (get_or es at None) id (last.1 None) in
     grind (arith, room es id sound is_id, read_only es id at entry.0 (place_known es id at sound within last) entry.1)
 
 -- an entry free: at most seven ids are held
 room_free : (es : List (Option Service)) (id at : ℕ) → Sound es → id < ids → at < length es → IsLast key_in None es at → held (set (services_in es) id None) ≢ capacity
 room_free es id at sound is_id within free full =
-    grind (arith, room es id sound is_id, free.0 None, get_or-le-sum_by (λ e. cond (is_none e) 1 0) es at None within)
+    grind (arith, room es id sound is_id, free.1 None, get_or-le-sum_by (λ e. cond (is_none e) 1 0) es at None within)
 
 -- the id in no entry, and none free: eight others are held
 no_room : (es : List (Option Service)) (id : ℕ) → Sound es → id < ids → IsAbsent key_in (Some id) es → IsAbsent key_in None es → held (set (services_in es) id None) ≡ capacity

@@ -4,13 +4,13 @@ ghost use Rattle.settings.specs.Settings.{settings, keeps};
 
 use keyed::Keyed;
 
-// How many settings there are, and so how many places a store has.
+/// How many settings there are, and so how many places a store has.
 pub const PLACES: usize = 8;
 
-// No setting has more bytes.
+/// No setting has more bytes.
 pub const WIDEST: usize = 11;
 
-// Room for a value of any setting. The value stands at the start, and what lies past it is of no meaning.
+/// Room for a value of any setting. The value stands at the start, and what lies past it is of no meaning.
 // A plain array with a width answered beside it, since a value is handed over in a row that the caller owns, with no heap.
 pub type Row = [u8; WIDEST];
 

@@ -1,25 +1,30 @@
 // The log store: records in a row that the caller lends, of which a place's last one has its value.
-ghost use Rattle.std.specs.Prelude.{◌≡◌, ◌<◌, [], ◌∷◌, ◌++◌, length};
-ghost use Rattle.store.specs.Laws.{LogLaws};
-ghost use Rattle.store.specs.Logs.{capacity, record_of, row_of, records_of, with_room, appended, log_places, ChangesTo};
+ghost use Rattle.std.specs.Prelude.{◌≡◌, ◌<◌, ◌≤◌, [], ◌∷◌, ◌++◌, length};
+ghost use Rattle.store.specs.declared.records.TheConstants.{RECORDS};
 ghost use Rattle.store.specs.Places.{written, wiped};
 
 use crate::interface::Store;
-use crate::records::{RECORDS, Record, latest, used};
+use crate::records::{RECORDS, Record, latest};
 use crate::rows::lay;
 use settings::place::Place;
 use settings::table::{PLACES, Row};
 
-// A row with a count beside it, and no fact of them in the type: the caller lends the row, always of 16 records, and it may hold anything.
+/// The values that a log of records has, by each place's last one.
+// A row with a count beside it, since the caller lends the row, always of 16 records, and has it back.
 #[derive(Drop)]
 pub struct LogStore<'a> {
     row: &'a mut [Record; RECORDS],
     // How many records are in use, from the row's start on.
     count: usize,
+    ghost whole: { length row.now ≡ RECORDS },
+    ghost within: { count ≤ RECORDS },
 }
 
 impl<'a> LogStore<'a> {
-    // An empty log on this row, whatever the row holds. The caller has the row back when the store is gone.
+    ghost use Rattle.store.specs.Laws.{LogLaws};
+    ghost use Rattle.store.specs.Logs.{capacity, records_of, with_room, log_places, ChangesTo};
+
+    /// An empty log on this row, whatever the row holds. The caller has the row back when the store is gone.
     #[tactic(auto, using(crate::proofs::Logged::empty_log, crate::proofs::Logged::log_laws))]
     pub fn new(row: &'a mut [Record; RECORDS]) -> LogStore<'a>
         ensures places { log_places result ≡ wiped }
@@ -30,15 +35,12 @@ impl<'a> LogStore<'a> {
     {
         LogStore { row, count: 0 }
     }
-}
 
-impl LogStore<'_> {
     // The records in use.
     fn records(&self) -> &[Record]
-        ensures records { result.now ≡ records_of self.now }
-        ensures long { length self.now.row.now ≡ capacity }
+        ensures { result.now ≡ records_of self.now }
     {
-        used(self.row, self.count)
+        &self.row[..self.count]
     }
 
     // Adds a record after those in use.
@@ -46,9 +48,8 @@ impl LogStore<'_> {
         requires { length (records_of self.old) < capacity }
         ensures { ChangesTo self.old self.new (records_of self.old ++ added ∷ []) }
     {
-        let count = self.records().len();
-        self.row[count] = added;
-        self.count = count + 1;
+        self.row[self.count] = added;
+        self.count += 1;
     }
 
     // Makes room for one record more: a full log gives up all but each place's last record, in the order of the places.
@@ -57,7 +58,7 @@ impl LogStore<'_> {
         ensures room { length (records_of self.new) < capacity }
         ensures records { ChangesTo self.old self.new (with_room (records_of self.old)) }
     {
-        if self.records().len() < RECORDS {
+        if self.count < RECORDS {
             return;
         }
         let full = *self.row;
@@ -73,6 +74,7 @@ impl LogStore<'_> {
 // Beside the trait's clauses, which have to be repeated for that, a write and a wipe say what stands in the lent row.
 impl Store for LogStore<'_> {
     ghost use Rattle.store.specs.Fits.{places_fit};
+    ghost use Rattle.store.specs.Logs.{record_of, row_of, records_of, appended, log_places, ChangesTo};
 
     ghost places = { log_places };
 

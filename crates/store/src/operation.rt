@@ -8,7 +8,8 @@ use crate::interface::Store;
 use settings::place::Place;
 use settings::table::{Row, WIDEST};
 
-#[derive(Clone, Copy)]
+/// One call on a store.
+#[derive(Clone, Copy, PartialEq, Eq, Debug)]
 pub enum Operation {
     Read(Place),
     Write(Place, Row),
@@ -39,7 +40,7 @@ impl Operation {
     }
 }
 
-// Gives two stores the same operations, one after another, and answers whether they answered every one alike.
+/// Gives two stores the same operations, one after another, and answers whether they answered every one alike.
 #[tactic(auto, using(crate::proofs::Runs::store_laws), unfolding(crate::specs::Operations::answers))]
 pub fn agree<X: Store, Y: Store>(x: &mut X, y: &mut Y, operations: &[Operation]) -> bool
     ensures answers { IsTrue result ↔ (answers (X.places x.old) operations.now ≡ answers (Y.places y.old) operations.now) }

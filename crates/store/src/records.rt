@@ -1,15 +1,15 @@
 // Records of places and their values, and the search for a place's last one.
-ghost use Rattle.std.specs.Prelude.{◌≡◌, length, take};
+ghost use Rattle.std.specs.Prelude.{◌≡◌};
 ghost use Rattle.std.specs.Option.{option_copied};
-ghost use Rattle.store.specs.Logs.{capacity, latest_of};
+ghost use Rattle.store.specs.Logs.{latest_of};
 
 use keyed::{Keyed, last_with};
 use settings::table::Row;
 
-// A row always has room for this many records.
+/// A row always has room for this many records.
 pub const RECORDS: usize = 16;
 
-// A place, by its number, and the value that it was given.
+/// A place, by its number, and the value that it was given.
 // The number is a plain one, not a `Place`: the row that a caller lends may hold anything, and so records of no place.
 #[derive(Clone, Copy, PartialEq, Eq, Debug)]
 pub struct Record {
@@ -26,15 +26,6 @@ impl Keyed for Record {
     fn key(&self) -> usize {
         self.place
     }
-}
-
-// The first `count` records of a row, or all where it has no more.
-// No method of the log: a proof knows how long a fixed row is where the row is a parameter, and not where it stands behind a field.
-pub(crate) fn used(row: &[Record; RECORDS], count: usize) -> &[Record]
-    ensures records { result.now ≡ take count row.now }
-    ensures long { length row.now ≡ capacity }
-{
-    row.get(..count).unwrap_or(row)
 }
 
 // The last record of a place, or none.

@@ -8,13 +8,14 @@ use crate::rows::lay;
 use settings::place::Place;
 use settings::table::{PLACES, Row};
 
-#[derive(Clone, Copy)]
+/// A value for each setting, or none, each in a slot of its own.
+#[derive(Clone, Copy, PartialEq, Eq, Debug)]
 pub struct SlotStore {
     rows: [Option<Row>; PLACES],
 }
 
 impl SlotStore {
-    // A store with no value in any place.
+    /// A store with no value in any place.
     #[tactic(auto, using(crate::proofs::Meaning::list_wiped))]
     pub fn new() -> SlotStore
         ensures { slot_places result ≡ wiped }

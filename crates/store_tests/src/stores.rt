@@ -20,12 +20,15 @@ fn place(number: usize) -> Result<Place, Fail> {
     Place::new(number).ok_or_else(|| Fail::new("no place"))
 }
 
-// Whether a store holds a value of these bytes in a place.
+// Whether a store holds a value of these bytes in a place, and leaves the rest of the row as it was.
 fn holds<S: Store>(store: &S, place: Place, byte: u8) -> bool {
     let mut row = [0xee; WIDEST];
-    let width = place.width();
-    let laid = |(i, held): (usize, &u8)| *held == if i < width { byte } else { 0xee };
-    store.read(place, &mut row) == Some(width) && row.iter().enumerate().all(laid)
+    let mut expected = [0xee; WIDEST];
+    let Some(front) = expected.get_mut(..place.width()) else {
+        return false;
+    };
+    front.fill(byte);
+    store.read(place, &mut row) == Some(place.width()) && row == expected
 }
 
 // Whether a store holds nothing in a place, and leaves the row as it was.
@@ -34,37 +37,48 @@ fn lacks<S: Store>(store: &S, place: Place) -> bool {
     store.read(place, &mut row).is_none() && row == [0xee; WIDEST]
 }
 
-// Whether both stores answer a read of every place alike.
-fn alike(slot: &mut SlotStore, log: &mut LogStore) -> bool {
-    (0..PLACES)
-        .filter_map(Place::new)
-        .all(|place| agree(slot, log, &[Operation::Read(place)]))
+// Both stores, side by side.
+#[derive(Drop)]
+struct Both<'a> {
+    slot: SlotStore,
+    log: LogStore<'a>,
 }
 
-// Writes as often as said, each time another value, to one place or else to each in turn, and compares after every write.
-fn write(
-    rt: &impl Abort,
-    slot: &mut SlotStore,
-    log: &mut LogStore,
-    one: Option<usize>,
-    times: u8,
-) -> Result<(), Fail> {
-    for byte in 0..times {
-        let place = place(one.unwrap_or(usize::from(byte) % PLACES))?;
-        assert!(rt; agree(slot, log, &[Operation::Write(place, [byte; WIDEST])]));
-        assert!(rt; holds(slot, place, byte) && holds(log, place, byte) && alike(slot, log));
+impl Both<'_> {
+    // Gives both an operation, and answers whether they answered it alike.
+    fn agree(&mut self, operation: Operation) -> bool {
+        agree(&mut self.slot, &mut self.log, &[operation])
     }
-    Ok(())
+
+    // Whether both answer a read of every place alike.
+    fn are_alike(&mut self) -> bool {
+        (0..PLACES)
+            .filter_map(Place::new)
+            .all(|place| self.agree(Operation::Read(place)))
+    }
+
+    // Writes as often as said, each time another value, to one place or else to each in turn, and compares after every write.
+    fn write(&mut self, rt: &impl Abort, one: Option<usize>, times: u8) -> Result<(), Fail> {
+        for byte in 0..times {
+            let place = place(one.unwrap_or(usize::from(byte) % PLACES))?;
+            assert!(rt; self.agree(Operation::Write(place, [byte; WIDEST])));
+            assert!(rt; holds(&self.slot, place, byte) && holds(&self.log, place, byte));
+            assert!(rt; self.are_alike());
+        }
+        Ok(())
+    }
 }
 
 // Fills both stores, wipes them, and fills them again.
 fn fill_wipe_fill(rt: &impl Abort, one: Option<usize>, times: u8) -> Result<(), Fail> {
     let mut row = [OLD; RECORDS];
-    let mut log = LogStore::new(&mut row);
-    let mut slot = SlotStore::new();
-    write(rt, &mut slot, &mut log, one, times)?;
-    assert!(rt; agree(&mut slot, &mut log, &[Operation::Wipe]) && alike(&mut slot, &mut log));
-    write(rt, &mut slot, &mut log, one, times)
+    let mut both = Both {
+        slot: SlotStore::new(),
+        log: LogStore::new(&mut row),
+    };
+    both.write(rt, one, times)?;
+    assert!(rt; both.agree(Operation::Wipe) && both.are_alike());
+    both.write(rt, one, times)
 }
 
 #[test]
