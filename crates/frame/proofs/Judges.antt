@@ -3,7 +3,7 @@ use Rattle.std.proofs.Common.{◌≡◌, ℕ, suc, ◌<◌, ◌≤◌, Bool, tru
 use Rattle.std.proofs.lemmas.Bool.{ne_eqb}
 use Rattle.std.proofs.lemmas.Bool.Decides.{nat_tests}
 use Rattle.frame.specs.declared.verdict.Verdict.{Verdict}
-use Rattle.frame.specs.declared.verdict.Verdict.TheVariants.{Escape, Short, Check, Good}
+use Rattle.frame.specs.declared.verdict.Verdict.TheVariants.{Escape, Good}
 use Rattle.frame.specs.Collected.{Kept, kept_of, is_whole, judged}
 use Rattle.frame.specs.Escapes.{escape_byte, stands_for, before, unescaped}
 use Rattle.frame.specs.Verdicts.{longest, shortest, content_of, due, carried, verdict_by, verdict_of}
@@ -45,10 +45,6 @@ with_byte b raw u e = let some : eqb (suc (length raw)) 0 ≡ false = ne_eqb (su
 
 not_whole : (k : Kept) → is_whole k.escapes ≡ false → judged k ≡ Escape
 not_whole k e = ap (λ t. cond t (verdict_by (eqb (length k.content) 0) false k.over k.content) Escape) e
-
--- the verdict on a content of 1 to 125 bytes
-abbrev fitting : List ℕ → Verdict
-fitting cs = cond (ltb (length cs) shortest) Short (cond (not (eqb (due cs) (carried cs))) Check Good)
 
 -- a content of 5 to 125 bytes with the check sequence that is due is good
 pub good_content : (raw cs : List ℕ) → unescaped raw ≡ Some cs → shortest ≤ length cs → length cs ≤ longest → due cs ≡ carried cs → verdict_of raw ≡ Good

@@ -1,6 +1,6 @@
 -- Writing into a buffer, one part after another. Assumes nothing.
-use Rattle.std.proofs.Common.{◌≡◌, ℕ, ◌+◌, ◌<◌, ◌≤◌, List, [], ◌∷◌, ◌++◌, length, take, drop, set, sym, refl, ap, ◌∙◌, append_assoc, add-zero, add-one, arith, length-append, length-drop, take-append-drop, length-take-le}
-use Rattle.std.proofs.lemmas.List.{drop-drop, set_split}
+use Rattle.std.proofs.Common.{◌≡◌, ℕ, ◌+◌, ◌≤◌, List, [], ◌++◌, length, take, drop, sym, refl, ap, ◌∙◌, append_assoc, add-zero, arith, length-append, length-drop, take-append-drop, length-take-le}
+use Rattle.std.proofs.lemmas.List.{drop-drop}
 use Rattle.std.proofs.lemmas.Slice.{take-put_mid, drop-put_mid}
 use borrow.Rule.Slice.PartMut.{put_mid}
 use Rattle.std.proofs.lemmas.Grind.{common_steps}
@@ -9,10 +9,6 @@ use Rattle.frame.specs.Written.{written}
 pub written_nothing : (old : List ℕ) (at : ℕ) → written old at [] ≡ old
 unfolding written
 written_nothing old at = ap (λ n. take at old ++ drop n old) (add-zero at) ∙ take-append-drop at old
-
-pub written_byte : (old : List ℕ) (at b : ℕ) → at < length old → set old at b ≡ written old at (b ∷ [])
-unfolding written
-written_byte old at b within = set_split old at b within ∙ ap (λ n. take at old ++ (b ∷ drop n old)) (sym (add-one at))
 
 -- as a slice's part is overwritten
 pub overwritten : (old new bytes : List ℕ) (at n : ℕ) → new ≡ bytes → n ≡ length bytes → put_mid at n old new ≡ written old at bytes

@@ -16,7 +16,7 @@ pub fn list(alloc: Global, recording: &[u8]) -> Result<Vec<u8>, AllocError>
     if let Err(refusal) = read(recording, 0) {
         return Ok(format!(in alloc; "{refusal}\n")?.into_bytes());
     }
-    let mut row = [0; LINE_ROOM]; // has room for any line, so that no call below is refused
+    let mut row = [0; LINE_ROOM]; // lent to the calls, which take no heap; it has room for any line, so that none is refused
     let mut text = Vec::new(alloc);
     let count = names(&mut row).unwrap();
     text.extend_from_slice(&row[..count])?;

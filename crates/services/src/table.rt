@@ -14,7 +14,8 @@ const CAPACITY: usize = 8;
 
 /// The services that are held, no two of them with one id.
 // A ghost field, and no `impl Model`: that would hide what holds of every table from the laws, and the entries from the clause that says which of them stay.
-#[derive(Clone, Copy, PartialEq, Eq, Debug)]
+// And no `PartialEq`: two tables that answer alike may have their services in other entries.
+#[derive(Clone, Copy, Debug)]
 pub struct Table {
     entries: [Option<Service>; CAPACITY],
     ghost sound: { Sound entries },

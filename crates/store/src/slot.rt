@@ -9,7 +9,8 @@ use settings::place::Place;
 use settings::table::{PLACES, Row};
 
 /// A value for each setting, or none, each in a slot of its own.
-#[derive(Clone, Copy, PartialEq, Eq, Debug)]
+// No `PartialEq`: two stores that answer alike may differ in bytes past a value's width.
+#[derive(Clone, Copy, Debug)]
 pub struct SlotStore {
     rows: [Option<Row>; PLACES],
 }
