@@ -26,6 +26,7 @@ enum Escapes {
 
 /// The bytes of one piece, as far as they came.
 // Clauses see it through `kept_by`: it is `Copy` and holds a content, which cannot have an `impl Model` then (content.rt).
+// No `PartialEq`: the bytes past a content's count are of no meaning.
 #[derive(Clone, Copy, Debug)]
 pub struct Collector {
     content: Content,

@@ -35,7 +35,7 @@ impl Row {
 }
 
 // The first `count` bytes of the row.
-// No `ArrayVec`, which is not `Copy` as a receiver is, and no `impl Model`, which at a `Copy` type has to give back the bytes past the count.
+// It is `Copy`, since a receiver's callers were promised that: so no `ArrayVec`, which is not, and no `impl Model`, which would have to give back the bytes past the count.
 #[derive(Clone, Copy, Debug)]
 pub(crate) struct Content {
     count: usize,

@@ -11,6 +11,7 @@ use crate::verdict::Verdict;
 
 /// Waits for a first flag, and then collects the piece since the last one.
 // Clauses see it through `hearing`: it is `Copy` and holds a content, which cannot have an `impl Model` then (content.rt).
+// No `PartialEq`, for the reason that stands at the collector.
 #[derive(Clone, Copy, Debug)]
 pub struct Receiver {
     // The piece since the last flag; none while no flag came yet.

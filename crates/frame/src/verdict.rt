@@ -1,7 +1,7 @@
 // The verdict on a piece, the run of bytes between two flags.
 
 /// What is to be said of a piece, in the order in which they are tried: the first that fits is the verdict.
-// No `Result` with five errors: the piece call has a status for each of the six, the good one among them.
+// No `Result` with five errors: the listing, the numbers and the laws treat good as one of six.
 #[derive(Clone, Copy, PartialEq, Eq, Debug)]
 pub enum Verdict {
     /// No byte at all.

@@ -24,7 +24,8 @@ pub struct Reading<'a> {
     pub raw: &'a [u8],
     /// The place to go on.
     pub next: usize,
-    /// The first byte of a good content. It is no part of the label: a verdict is one of six, with no byte of what was judged.
+    /// The first byte of a good content.
+    // It stands apart from the label, which has a number and a name without any byte of what was judged.
     pub command: Option<u8>,
 }
 
@@ -118,6 +119,7 @@ fn collect(raw: &[u8]) -> Collector
 }
 
 // Where the run begins that a place speaks of: a leading flag is passed over at place 0.
+// The recording and the place travel on from `read`, which takes them as `piece` does.
 fn start_at(recording: &[u8], place: usize) -> usize
     requires { place ≤ length recording.now }
     ensures value { result ≡ start_at recording.now place }

@@ -13,7 +13,7 @@ pub const SIZE: usize = 9;
 /// Every id is below this number.
 pub const IDS: usize = 128;
 
-// The flags of a service that is a source. Numbers and no enum, since flags are bits, of which a block transfer may have any of two.
+// The flags of a service that is a source.
 const SOURCE: u8 = 1;
 
 // The flags of an intermittent source.
@@ -26,6 +26,7 @@ const TRANSFER_FLAGS: u8 = 3;
 #[derive(Clone, Copy, PartialEq, Eq, Debug)]
 pub struct Service {
     pub id: u8,
+    // Bits and no enum: a source, an intermittent one, and for a block transfer any of the lowest two.
     pub flags: u8,
     // A byte and no `Domain`: a value that breaks the rule, and a deletion, may have any.
     pub domain: u8,

@@ -19,7 +19,7 @@ pub struct Place {
 
 impl Place {
     /// The place with this number; none where no place has it.
-    // No `TryFrom`: a number without a place is no error, and is answered with none, as by NonZero's `new`.
+    // No `TryFrom`: there is nothing to tell but that there is none, as with NonZero's `new`.
     pub fn new(number: usize) -> Option<Place>
         ensures { option_map (λ p. p.at) result ≡ then_some (nat_lt number place_count) number }
     {

@@ -11,6 +11,7 @@ use settings::table::{PLACES, Row};
 
 /// The values that a log of records has, by each place's last one.
 // A row with a count beside it, since the caller lends the row, always of 16 records, and has it back.
+// No `impl Model`: clauses say what stands in the lent row, also past the records in use.
 #[derive(Drop)]
 pub struct LogStore<'a> {
     row: &'a mut [Record; RECORDS],

@@ -17,7 +17,7 @@ pub enum Operation {
 }
 
 impl Operation {
-    // Gives a store this operation, and answers the width and the row of what was read, or none.
+    // Gives a store this operation, and answers the width and the row of what was read, or none: side by side, as a read answers them.
     fn run<S: Store>(&self, store: &mut S) -> Option<(usize, Row)>
         ensures answer { result ≡ option_map shown (answer (S.places store.old) self.now) }
         ensures after { S.places store.new ≡ after (S.places store.old) self.now }
