@@ -31,7 +31,8 @@ pub struct Service {
     // A byte and no `Domain`: a value that breaks the rule, and a deletion, may have any.
     pub domain: u8,
     pub destination: u16,
-    /// A time of 0 asks for the service to be deleted: a number and no `Option`, since these are the fields as they come over the line.
+    /// A time of 0 asks for the service to be deleted.
+    // A number and no `Option`, since these are the fields as they come over the line.
     pub time: u32,
 }
 
