@@ -9,7 +9,7 @@ use settings::place::Place;
 use settings::table::{Row, WIDEST};
 
 /// One call on a store.
-#[derive(Clone, Copy, PartialEq, Eq, Debug)]
+#[derive(Clone, Copy, Debug)]
 pub enum Operation {
     Read(Place),
     Write(Place, Row),
