@@ -1,21 +1,41 @@
 // Lists a recorded line, read from standard input, piece by piece.
 #![tactic(auto)]
 
+ghost use Rattle.std.specs.Prelude.{◌≡◌, ◌≤◌, length, take, IfOk, IfSome};
+
 mod listing;
 
 use listing::list;
 use recording::reader::LIMIT;
+use std::io;
 use std::io::{Read, Write};
 
-// One byte more than a recording may have: a longer input is refused without being read to its end.
-const ROOM: u64 = LIMIT as u64 + 1;
+// One byte more than a recording may have: whoever fills it has read enough to be refused.
+const ROOM: usize = LIMIT + 1;
 
 fn main(rt: HostRuntime) -> anyhow::Result<()> {
-    let mut recording = Vec::new(rt.alloc());
-    rt.stdin().take(ROOM).read_to_end(&mut recording)?;
-    let text = list(rt.alloc(), &recording)?;
+    let mut room = [0; ROOM]; // fixed memory and no `Vec`: so reading cannot run out of heap
+    let count = fill(&mut rt.stdin(), &mut room)?;
+    let text = list(rt.alloc(), &room[..count])?;
     let mut out = rt.stdout();
     out.write_all(&text)?;
     out.flush()?;
     Ok(())
+}
+
+// Reads until the input ends or the buffer is full, and answers how many bytes were read.
+// By hand and not by `read_to_end`: each read is offered all the room that is left, since an input that keeps its messages apart, as a packet pipe does, loses what a read has no room for.
+fn fill<R: Read>(input: &mut R, buf: &mut [u8]) -> io::Result<usize>
+    ensures within { IfOk result (λ n. n ≤ length buf.new) }
+    ensures bytes { IfOk result (λ n. IfSome (R.remaining input.old) (λ bytes. take n buf.new ≡ take (length buf.new) bytes)) }
+{
+    let mut count = 0;
+    while count < buf.len() {
+        let got = input.read(&mut buf[count..])?;
+        if got == 0 {
+            break;
+        }
+        count += got;
+    }
+    Ok(count)
 }

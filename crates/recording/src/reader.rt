@@ -49,6 +49,8 @@ pub fn piece(recording: &[u8], place: usize) -> (u16, &[u8], usize)
 #[tactic(auto, unfolding(crate::specs::Pieces::piece_at, crate::specs::Pieces::run_from))]
 pub fn read(recording: &[u8], place: usize) -> Result<Option<Reading<'_>>, Refusal>
     ensures answer { answered recording.now place result ≡ piece_at recording.now place }
+    ensures covers { PiecesCoverTheRecording }
+    ensures none { NoneOnlyAtTheEnd }
 
     // So a caller who goes on at `next` comes to the recording's end.
     ensures short { OnOk result (length recording.now ≤ LIMIT) }
