@@ -3,13 +3,14 @@ ghost use Rattle.std.specs.Prelude.{◌≡◌, ◌<◌, ◌≤◌, ◌↔◌, []
 ghost use Rattle.frame.specs.Verdicts.{longest};
 
 use crate::LONGEST;
+use std::fmt;
 
 // The content holds 125 bytes and takes no more.
 #[derive(Clone, Copy, Debug)]
 pub(crate) struct Full;
 
 // The memory of a content. What lies past the content's count is of no meaning.
-#[derive(Clone, Copy, Debug)]
+#[derive(Clone, Copy)]
 struct Row {
     bytes: [u8; LONGEST],
 }
@@ -36,7 +37,7 @@ impl Row {
 
 // The first `count` bytes of the row.
 // It is `Copy`, since a receiver's callers were promised that: so no `ArrayVec`, which is not, and no `impl Model`, which would have to give back the bytes past the count.
-#[derive(Clone, Copy, Debug)]
+#[derive(Clone, Copy)]
 pub(crate) struct Content {
     count: usize,
     row: Row,
@@ -85,5 +86,18 @@ impl Content {
         ensures len { length result.now ≡ self.now.count }
     {
         self.row.front(self.count)
+    }
+}
+
+// By hand: the row still has bytes of earlier pieces past the count, and nothing is to be carried over a flag.
+impl fmt::Debug for Content {
+    ghost use Rattle.std.specs.Prelude.{Some, decimal};
+    ghost use Rattle.std.specs.Fmt.{debug_list};
+    ghost use Rattle.frame.specs.Contents.{bytes_of};
+
+    ghost debug_output = { λ content. debug_list (λ byte. Some (decimal byte)) (bytes_of content) };
+
+    fn fmt<W: fmt::Write>(&self, f: &mut fmt::Formatter<W>) -> fmt::Result {
+        fmt::Debug::fmt(&self.bytes(), f)
     }
 }

@@ -34,13 +34,12 @@ impl Receiver {
         ensures hears { hearing self.new ≡ hear_on (hearing self.old) byte }
         ensures line { (line : Line) → Hears line self.old → Hears (hear line byte) self.new }
     {
-        if byte == FLAG {
-            match &mut self.piece {
-                Some(piece) => piece.clear(), // in place: a new one would be written whole at each flag
-                None => self.piece = Some(Collector::new()),
-            }
-        } else if let Some(piece) = &mut self.piece {
-            piece.put(byte);
+        // The piece is asked before the byte: once there is one it stays, so a loop over bytes need not ask at each.
+        match &mut self.piece {
+            Some(piece) if byte == FLAG => piece.clear(), // in place: a new one would be written whole at each flag
+            Some(piece) => piece.put(byte),
+            None if byte == FLAG => self.piece = Some(Collector::new()),
+            None => {}
         }
     }
 

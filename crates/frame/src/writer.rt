@@ -19,11 +19,12 @@ pub fn write_frame(message: &[u8], out: &mut [u8]) -> Option<usize>
     ensures bytes { out.new ≡ (if fits_into (frame_of message.now) out.old then written out.old 0 (frame_of message.now) else out.old) }
     ensures laws { FrameLaws }
 {
-    let check = check_bytes(message);
-    out.len()
+    let left = out
+        .len()
         .checked_sub(2)? // the two flags
-        .checked_sub(escaped_len(message))?
-        .checked_sub(escaped_len(&check))?;
+        .checked_sub(escaped_len(message))?;
+    let check = check_bytes(message); // only for a message that fits: the sum costs more than the measuring
+    left.checked_sub(escaped_len(&check))?;
 
     let mut cursor = Cursor { out, at: 0 };
     cursor.put(&[FLAG]);

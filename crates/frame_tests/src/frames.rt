@@ -102,3 +102,16 @@ fn noise_is_not_carried_over_a_flag(rt: HostRuntime) {
         assert_eq!(rt; receiver.content(), JOIN);
     }
 }
+
+#[test]
+fn an_earlier_piece_is_not_printed(rt: HostRuntime) -> Result<(), Fail> {
+    let mut receiver = Receiver::new();
+    give(&mut receiver, b"~AB");
+    let text = format!(in rt.alloc(); "{receiver:?}")?;
+    assert!(rt; text.contains("content: [65, 66]"));
+    receiver.put(FLAG);
+    let text = format!(in rt.alloc(); "{receiver:?}")?;
+    assert!(rt; text.contains("content: []"));
+    assert!(rt; !text.contains("65"));
+    Ok(())
+}
