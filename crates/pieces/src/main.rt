@@ -2,6 +2,7 @@
 #![tactic(auto)]
 
 ghost use Rattle.std.specs.Prelude.{◌≡◌, ◌≤◌, length, take, IfOk, IfSome};
+ghost use Rattle.std.specs.Io.KnownBytes.{Consumes};
 
 mod listing;
 
@@ -14,7 +15,7 @@ use std::io::{Read, Write};
 const ROOM: usize = LIMIT + 1;
 
 fn main(rt: HostRuntime) -> anyhow::Result<()> {
-    let mut room = [0; ROOM]; // fixed memory and no `Vec`: so reading cannot run out of heap
+    let mut room = [0; ROOM]; // no `Vec`: reading asks for no heap, and so cannot run out of it
     let count = fill(&mut rt.stdin(), &mut room)?;
     let text = list(rt.alloc(), &room[..count])?;
     let mut out = rt.stdout();
@@ -23,11 +24,12 @@ fn main(rt: HostRuntime) -> anyhow::Result<()> {
     Ok(())
 }
 
-// Reads until the input ends or the buffer is full, and answers how many bytes were read.
+// Reads until the input ends or the buffer is full, and answers how many bytes were read: those it took, and no more.
 // By hand and not by `read_to_end`: each read is offered all the room that is left, since an input that keeps its messages apart, as a packet pipe does, loses what a read has no room for.
 fn fill<R: Read>(input: &mut R, buf: &mut [u8]) -> io::Result<usize>
     ensures within { IfOk result (λ n. n ≤ length buf.new) }
     ensures bytes { IfOk result (λ n. IfSome (R.remaining input.old) (λ bytes. take n buf.new ≡ take (length buf.new) bytes)) }
+    ensures taken { IfOk result (λ n. Consumes (R.remaining input.old) (R.remaining input.new) (take n buf.new)) }
 {
     let mut count = 0;
     while count < buf.len() {

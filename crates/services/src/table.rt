@@ -81,7 +81,7 @@ impl Table {
     pub fn left(&self) -> usize
         ensures { result + held (services self.now) ≡ capacity }
     {
-        // Not by `filter` and `count`, which branch at each entry and take twice the time.
+        // Not by `filter` and `count`, which branch at each entry and take nearly twice the time.
         self.entries
             .iter()
             .map(|entry| usize::from(entry.is_none()))
