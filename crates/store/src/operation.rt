@@ -18,18 +18,18 @@ pub enum Operation {
 
 impl Operation {
     // Gives a store this operation, and answers the width and the row of what was read, or none: side by side, as a read answers them.
-    fn run<S: Store>(&self, store: &mut S) -> Option<(usize, Row)>
-        ensures answer { result ≡ option_map shown (answer (S.places store.old) self.now) }
-        ensures after { S.places store.new ≡ after (S.places store.old) self.now }
+    fn run<S: Store>(self, store: &mut S) -> Option<(usize, Row)>
+        ensures answer { result ≡ option_map shown (answer (S.places store.old) self) }
+        ensures after { S.places store.new ≡ after (S.places store.old) self }
     {
         match self {
             Operation::Read(place) => {
                 let mut row = [0; WIDEST];
-                let width = store.read(*place, &mut row)?;
+                let width = store.read(place, &mut row)?;
                 Some((width, row))
             }
             Operation::Write(place, row) => {
-                store.write(*place, row);
+                store.write(place, &row);
                 None
             }
             Operation::Wipe => {
@@ -52,6 +52,7 @@ pub fn agree<X: Store, Y: Store>(x: &mut X, y: &mut Y, operations: &[Operation])
     // No `all`: both stores are given every operation, also after a disagreement.
     let mut alike = true;
     for operation in operations {
+        let operation = *operation; // a copy, so that it is told apart once for both stores, whatever a store writes
         alike &= operation.run(x) == operation.run(y);
     }
     alike
